@@ -1,0 +1,7 @@
+pub mod Endings
+pub mod Ends
+pub mod Laws
+pub mod Linear
+pub mod Once
+pub mod Word
+pub mod Xor

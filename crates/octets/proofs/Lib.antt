@@ -1,0 +1,4 @@
+pub mod Copy
+pub mod Laid
+pub mod Once
+pub mod Words

@@ -1,0 +1,53 @@
+// Writes the words of an answer to standard output. Words are parted by one blank.
+use libc::STDOUT_FILENO;
+
+pub fn text(words: &[u8]) {
+    io::write_all(STDOUT_FILENO, words);
+}
+
+pub fn line_end() {
+    text(b"\n");
+}
+
+pub fn number(n: u64) {
+    text(b" ");
+    io::print_decimal(STDOUT_FILENO, n);
+}
+
+pub fn small(n: u8) {
+    number(n as u64);
+}
+
+// A word and a number.
+pub fn kind(words: &[u8], n: u8) {
+    text(words);
+    small(n);
+}
+
+// A number of 32 bits in eight hexadecimal digits, highest first.
+pub fn word(n: u64) {
+    text(b" ");
+    io::print_hex(STDOUT_FILENO, n, 8);
+}
+
+fn joined(a: u8, b: u8, c: u8, d: u8) -> u64 {
+    a as u64 * 16777216 + b as u64 * 65536 + c as u64 * 256 + d as u64
+}
+
+// Four octets in hexadecimal digits, first octet first.
+pub fn octets(x: [u8; 4]) {
+    word(joined(x[0], x[1], x[2], x[3]));
+}
+
+// Any number of octets, each in two digits.
+pub fn hex_octets(x: &[u8]) {
+    let mut i = 0;
+    while i < x.len() {
+        hex_octet(x[i]);
+        i += 1;
+    }
+}
+
+fn hex_octet(x: u8) {
+    io::print_hex(STDOUT_FILENO, x as u64, 2);
+}
