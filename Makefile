@@ -1,5 +1,5 @@
 # The seat port. `make test` is the gate; .ci/run calls it. Needed: the Rattle kit (rt), make and python3.
-VECTOR_MAKERS := $(sort $(wildcard tests/reference/vectors_*.py))
+MAKERS := $(sort $(wildcard tests/reference/vectors_*.py)) tests/reference/traces.py
 
 .PHONY: test format reference stored vectors prove
 
@@ -17,11 +17,11 @@ reference:
 
 # The stored vectors are what the reference makes.
 stored:
-	@for maker in $(VECTOR_MAKERS); do python3 $$maker --check || exit 1; done
+	@for maker in $(MAKERS); do python3 $$maker --check || exit 1; done
 
 # Makes the stored vectors anew.
 vectors:
-	@for maker in $(VECTOR_MAKERS); do python3 $$maker || exit 1; done
+	@for maker in $(MAKERS); do python3 $$maker || exit 1; done
 
 # The edit loop: proves what changed, and runs the programs.
 prove:

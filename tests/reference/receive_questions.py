@@ -1,0 +1,473 @@
+"""The questions asked about document 01's "Receiving" and "Counters".
+
+Answers are not looked at here. Only the record is followed with the reference, so that
+it is set anew where a question needs another one.
+"""
+
+from dataclasses import replace
+from itertools import product
+
+import codes
+import crc
+import exchange
+import mframe
+import receiving
+from chance import Chance
+from reader import lent_memory
+from receive_format import buffer_question, mframe_question, record_question
+from receiving import NOT_ASSEMBLING, Assembly, Counters, ReceivingRecord
+
+GREATEST = 2**64 - 1
+GREATEST_COUNT = 2**32 - 1
+SEED = 8027
+
+YES_AND_NO = (False, True)
+
+EXPRESS_CODE = codes.lone_code(codes.EXPRESS)
+VERIFY_CODE = codes.lone_code(codes.VERIFY)
+RESPOND_CODE = codes.lone_code(codes.RESPOND)
+
+MORE, DONE, DAMAGED = "more", "done", "damaged"
+
+
+class Script:
+    """Questions one after the other, with the kept record and memory that they lead to."""
+
+    def __init__(self):
+        self.questions = []
+        self.record = receiving.fresh()
+        self.memory = bytearray()
+
+    def set_record(self, assembly=NOT_ASSEMBLING, counters=Counters(0, 0, 0, 0)):
+        self.record = ReceivingRecord(assembly, counters)
+        self.questions.append(record_question(self.record))
+
+    def set_buffer(self, room, fill):
+        self.memory = lent_memory(room, fill)
+        self.questions.append(buffer_question(room, fill))
+
+    def want(self, assembly):
+        """Sets the record where it does not hold this assembly already; the counters stay."""
+        if self.record.assembly != assembly:
+            self.set_record(assembly, self.record.counters)
+
+    def give(self, octets):
+        self.questions.append(mframe_question(octets))
+        _, self.record = receiving.receive(self.memory, self.record, octets)
+
+
+def check_octets(register, end):
+    """Check octets that go on from `register` and say `end`."""
+    if end == DONE:
+        return crc.fcs_of_register(register)
+    if end == MORE:
+        return crc.mcrc_of_register(register)
+    return exchange.with_bit_turned(crc.fcs_of_register(register), 9)
+
+
+def closed(header, data, end, register=crc.ALL_ONES):
+    """A header and data, closed with check octets that say `end`."""
+    return header + data + check_octets(crc.register_after(register, data), end)
+
+
+def start(frame_count, data, end):
+    return closed(mframe.late_header(codes.start_code(frame_count)), data, end)
+
+
+def continuation(frame_count, fragment_count, register, data, end):
+    header = mframe.early_header(codes.continuation_code(frame_count), codes.fragment_code(fragment_count))
+    return closed(header, data, end, register)
+
+
+def fitting(assembly, data, end):
+    """The continuation that `assembly` waits for."""
+    return continuation(assembly.frame_count, assembly.next_fragment_count, assembly.register, data, end)
+
+
+def late(code, data, end):
+    """An mFrame of whatever kind with its delimiter at place 7."""
+    return closed(mframe.late_header(code), data, end)
+
+
+def open_assembly(chance, frame_count=0, next_fragment_count=0, kept=64):
+    """An assembly made by hand; its running CRC is any number, because 11 does not test it."""
+    return Assembly(True, frame_count, next_fragment_count, kept, chance.register())
+
+
+def each_kind(chance, assembly):
+    """Short mFrames of each kind with each end; the continuations go on from `assembly`."""
+    data = chance.octets(60)
+    mframes = []
+    for end in (DONE, MORE, DAMAGED):
+        for code in (EXPRESS_CODE, VERIFY_CODE, RESPOND_CODE, codes.start_code(1)):
+            mframes.append(late(code, data, end))
+        mframes.append(fitting(assembly, data, end))
+    return mframes
+
+
+def every_answer(script, chance):
+    """Each kind with each end, from a fresh record and with an assembly open, in memory of several sizes."""
+    for room in (1518, 1519, 2048):
+        script.set_buffer(room, room % 251)
+        for assembly in (NOT_ASSEMBLING, open_assembly(chance, 3, 2, 700)):
+            for octets in each_kind(chance, assembly):
+                script.want(assembly)
+                script.give(octets)
+
+
+def rooms(script, chance):
+    """10 at both sides: it is tested first, whatever the mFrame is."""
+    for room in (0, 1, 60, 72, 1516, 1517, 1518, 1519, 2047, 2048):
+        script.set_buffer(room, 17 * room % 256)
+        for assembly in (NOT_ASSEMBLING, open_assembly(chance, 1, 1, 60)):
+            for octets in each_kind(chance, assembly)[:9] + [b"", bytes(8)]:
+                script.want(assembly)
+                script.give(octets)
+    script.set_buffer(1518, 90)
+
+
+def of_length(header, length, octets, end):
+    """An mFrame of so many octets in all with a good check, where there is room for one."""
+    if length < 12:
+        return (header + octets)[:length]
+    return closed(header, octets[:length - 12], end)
+
+
+def lengths(script, chance):
+    """12 and 13 at both sides, with checks that would be good."""
+    octets = chance.octets(2048)
+    express_header = mframe.late_header(EXPRESS_CODE)
+    script.want(NOT_ASSEMBLING)
+    for length in range(76):
+        script.give(of_length(express_header, length, octets, DONE))
+    for code in (codes.start_code(2), VERIFY_CODE, RESPOND_CODE):
+        for length in (0, 1, 6, 7, 8, 11, 12, 70, 71, 72, 73):
+            script.give(of_length(mframe.late_header(code), length, octets, MORE))
+    for length in (8, 11, 12, 70, 71, 72, 73):
+        assembly = open_assembly(chance, 1, 3, 100)
+        script.want(assembly)
+        script.give(fitting(assembly, octets[:max(0, length - 12)], MORE)[:length])
+    # All 55, and nothing at all that an mFrame needs.
+    for length in (6, 7, 8, 71, 72):
+        script.give(bytes([mframe.PREAMBLE]) * length)
+    script.want(NOT_ASSEMBLING)
+    for length in (1529, 1530, 1531, 1532, 2048):
+        script.give(of_length(express_header, length, octets, DONE))
+    for end in (MORE, DONE):
+        for length in (1529, 1530, 1531):
+            script.want(NOT_ASSEMBLING)
+            script.give(of_length(mframe.late_header(codes.start_code(0)), length, octets, end))
+    for length in (1530, 1531):
+        script.give(of_length(mframe.late_header(VERIFY_CODE), length, octets, MORE))
+        script.give(of_length(mframe.late_header(RESPOND_CODE), length, octets, MORE))
+        assembly = open_assembly(chance)
+        script.want(assembly)
+        script.give(fitting(assembly, octets[:length - 12], MORE))
+
+
+def preambles(script, chance):
+    """14: each of places 0 to 5 with other octets, among them delimiters, as in a shortened preamble."""
+    data = chance.octets(60)
+    assembly = open_assembly(chance, 2, 1, 200)
+    for place in range(6):
+        for octet in (0x00, 0x54, 0xD4, 0xD5, 0xE6, 0x61, 0xAA, 0xFF):
+            for octets in (late(EXPRESS_CODE, data, DONE), late(codes.start_code(1), data, MORE),
+                           fitting(assembly, data, MORE)):
+                script.want(assembly)
+                script.give(octets[:place] + bytes([octet]) + octets[place + 1:])
+    # Octets of the preamble lost or too many, the rest being good.
+    for octets in (late(EXPRESS_CODE, data + data, DONE), fitting(assembly, data + data, MORE)):
+        for lost in range(1, 8):
+            script.want(assembly)
+            script.give(octets[lost:])
+            script.give(bytes([mframe.PREAMBLE]) * lost + octets)
+
+
+def late_delimiters(script, chance):
+    """All 256 octets at place 7 behind seven 55s."""
+    data = chance.octets(60)
+    for end in (DONE, MORE):
+        for octet in range(256):
+            script.want(NOT_ASSEMBLING)
+            script.give(late(octet, data, end))
+
+
+def early_delimiters(script, chance):
+    """All 256 octets at place 6, with octets at place 7 that are good as both, good as delimiter, good as neither."""
+    data = chance.octets(60)
+    assembly = open_assembly(chance, 2, 0, 64)
+    for second in (0xE6, 0xD5, 0x00):
+        for octet in range(256):
+            script.want(assembly)
+            script.give(closed(mframe.early_header(octet, second), data, MORE, assembly.register))
+
+
+def fragment_codes(script, chance):
+    """All 256 octets as fragment code, then all sixteen pairs of counts against four that are waited for."""
+    data = chance.octets(60)
+    assembly = open_assembly(chance, 2, 0, 64)
+    for octet in range(256):
+        script.want(assembly)
+        script.give(closed(mframe.early_header(codes.continuation_code(2), octet), data, MORE, assembly.register))
+    for expected in ((0, 0), (1, 3), (2, 1), (3, 2)):
+        assembly = open_assembly(chance, *expected)
+        for frame_count, fragment_count in product(range(4), range(4)):
+            for end in (MORE, DONE):
+                script.want(assembly)
+                script.give(continuation(frame_count, fragment_count, assembly.register, data, end))
+
+
+def order_of_refusals(script, chance):
+    """10 to 17 in all combinations that can be had, each also with a check that is not good."""
+    good = open_assembly(chance, 1, 2, 300)
+    bad = replace(good, kept=59)
+    headers = (
+        mframe.early_header(codes.continuation_code(1), codes.fragment_code(2)),
+        mframe.late_header(0xAD),
+        mframe.early_header(0xAD, EXPRESS_CODE),
+        mframe.late_header(codes.continuation_code(1)),
+        mframe.early_header(codes.start_code(1), codes.fragment_code(2)),
+        mframe.early_header(EXPRESS_CODE, 0x00),
+        mframe.early_header(codes.continuation_code(1), 0x55),
+    )
+    octets = chance.octets(2048)
+    for short, wrong_record in product(YES_AND_NO, YES_AND_NO):
+        script.set_buffer(1517 if short else 1518, 3)
+        for length, wrong_preamble, header, end in product((71, 72, 1531), YES_AND_NO, headers, (MORE, DAMAGED)):
+            # Long ones are asked more sparingly: they make the file large.
+            if length == 1531 and (end == DAMAGED or (short and wrong_record) or header not in headers[::2]):
+                continue
+            if wrong_preamble:
+                header = header[:3] + b"\x54" + header[4:]
+            script.want(bad if wrong_record else good)
+            script.give(closed(header, octets[:length - 12], end, good.register))
+    script.set_buffer(1518, 3)
+
+
+def records(script, chance):
+    """11: each field at the ends of its range and just outside, with an assembly open and without."""
+    registers = (0, 1, 2**31, 2**32 - 1, chance.register())
+    assemblies = [replace(NOT_ASSEMBLING, frame_count=count) for count in (1, 3, 4, 255)]
+    assemblies += [replace(NOT_ASSEMBLING, next_fragment_count=count) for count in (1, 3, 4, 255)]
+    assemblies += [replace(NOT_ASSEMBLING, kept=kept) for kept in (1, 60, 1518, 2**16, 2**32, 2**63, GREATEST)]
+    assemblies += [replace(NOT_ASSEMBLING, register=register) for register in registers]
+    good = open_assembly(chance, 1, 1, 600)
+    assemblies += [replace(good, frame_count=count) for count in (0, 1, 2, 3, 4, 5, 128, 255)]
+    assemblies += [replace(good, next_fragment_count=count) for count in (0, 1, 2, 3, 4, 5, 128, 255)]
+    assemblies += [replace(good, kept=kept) for kept in
+                   (0, 1, 59, 60, 61, 1457, 1458, 1459, 1517, 1518, 1519, 2**16 + 100, 2**32 + 100, 2**63, GREATEST)]
+    assemblies += [replace(good, register=register) for register in registers]
+    # As not assembling, but said to be, and the other way round.
+    assemblies += [replace(NOT_ASSEMBLING, assembling=True), replace(good, assembling=False), NOT_ASSEMBLING]
+    data = chance.octets(60)
+    for assembly in assemblies:
+        for octets in (late(EXPRESS_CODE, data, DONE), late(VERIFY_CODE, data, MORE), start(3, data, MORE),
+                       fitting(assembly, data, MORE), fitting(assembly, data, DONE), late(0x00, data, DONE)):
+            script.want(assembly)
+            script.give(octets)
+
+
+def running_checks(script, chance):
+    """A continuation's check goes on from the record's running CRC, whatever the octets kept are."""
+    kept = chance.octets(64)
+    data = chance.octets(70)
+    script.set_buffer(1600, 11)
+    script.want(NOT_ASSEMBLING)
+    script.give(start(1, kept, MORE))
+    true_register = crc.register_after(crc.ALL_ONES, kept)
+    for register in (true_register, 0, crc.ALL_ONES, true_register ^ 1, true_register ^ crc.ALL_ONES,
+                     chance.register()):
+        assembly = Assembly(True, 1, 0, 64, register)
+        for end in (MORE, DONE):
+            # Made for the record, made for the octets kept, made for a check begun anew.
+            for made_for in (register, true_register, crc.ALL_ONES):
+                script.want(assembly)
+                script.give(continuation(1, 0, made_for, data, end))
+
+
+def whole_checks(script, chance):
+    """E, V and R with every sort of check; their data may be anything and, of V and R, of any length."""
+    for data in (bytes(60), chance.octets(60), chance.octets(61), bytes(200), chance.octets(1518)):
+        register = crc.register_after(crc.ALL_ONES, data)
+        fcs, mcrc = crc.fcs_of_register(register), crc.mcrc_of_register(register)
+        checks = [fcs, mcrc]
+        if len(data) < 1518:
+            # The standard's own mCRC, the octets turned round, the complement forgotten, zeros, one bit wrong.
+            checks += [bytes([fcs[0] ^ 0xFF, fcs[1] ^ 0xFF, fcs[2], fcs[3]]), fcs[::-1], mcrc[::-1],
+                       bytes(octet ^ 0xFF for octet in fcs), bytes(4)]
+            checks += [exchange.with_bit_turned(check, place) for check in (fcs, mcrc) for place in (0, 15, 16, 31)]
+        for code in (EXPRESS_CODE, VERIFY_CODE, RESPOND_CODE):
+            for check in checks:
+                script.give(mframe.late_header(code) + data + check)
+
+
+def starts_over_an_open_assembly(script, chance):
+    """An assembly still open is abandoned first; a damaged start adds one more and leaves the memory alone."""
+    script.set_buffer(1700, 99)
+    for frame_count, kept, length, end in product(range(4), (60, 800), (60, 130), (MORE, DONE, DAMAGED)):
+        script.want(open_assembly(chance, 2, 1, kept))
+        script.give(start(frame_count, chance.octets(length), end))
+        # What would have gone on is now for the new one, or for none.
+        script.give(continuation(2, 1, chance.register(), chance.octets(60), MORE))
+    # Starts one after the other, without end.
+    script.want(NOT_ASSEMBLING)
+    for number in range(12):
+        script.give(start(number % 4, chance.octets(60 + number), (MORE, MORE, DAMAGED, DONE, MORE)[number % 5]))
+
+
+def drops_of_continuations(script, chance):
+    """22, 23, 24 and 25 in all combinations, then 24 at both sides with many sums."""
+    data = chance.octets(60)
+    for assembling, wrong_frame, wrong_fragment, too_long, end in product(
+            YES_AND_NO, YES_AND_NO, YES_AND_NO, YES_AND_NO, (MORE, DONE, DAMAGED)):
+        assembly = open_assembly(chance, 2, 3, 1459 if too_long else 1458)
+        script.want(assembly if assembling else NOT_ASSEMBLING)
+        script.give(continuation(1 if wrong_frame else 2, 0 if wrong_fragment else 3, assembly.register, data, end))
+        # Whatever it was: the one that would have fitted afterwards.
+        script.give(continuation(2, 0, chance.register(), data, DONE))
+    for kept, length in ((60, 1458), (60, 1459), (61, 1457), (700, 818), (700, 819), (1457, 60), (1457, 61),
+                         (1457, 62), (1458, 60), (1458, 61), (1459, 60), (1517, 60), (1518, 60), (1518, 61)):
+        octets = chance.octets(length)
+        for end in (MORE, DONE) if length > 1000 else (MORE, DONE, DAMAGED):
+            assembly = open_assembly(chance, 0, 1, kept)
+            script.want(assembly)
+            script.give(fitting(assembly, octets, end))
+    # As many octets as a body can have, and still more to come: nothing can be added.
+    for frame_count in (1, 2):
+        script.want(NOT_ASSEMBLING)
+        script.give(start(1, chance.octets(1518), MORE))
+        script.give(continuation(frame_count, 0, script.record.assembly.register, data, DONE))
+    script.want(NOT_ASSEMBLING)
+    script.give(start(1, chance.octets(1458), MORE))
+    script.give(fitting(script.record.assembly, data, MORE))
+    script.give(fitting(script.record.assembly, data, DONE))
+
+
+def counters_going_round(script, chance):
+    """Every way in which a counter moves, and some in which none does, from 0 and from the last numbers."""
+    data = chance.octets(60)
+    assembly = open_assembly(chance, 1, 2, 1458)
+    full = replace(assembly, kept=1459)
+    ways = [
+        (assembly, start(3, data, MORE)), (assembly, start(3, data, DONE)), (assembly, start(3, data, DAMAGED)),
+        (NOT_ASSEMBLING, start(3, data, MORE)), (NOT_ASSEMBLING, start(3, data, DONE)),
+        (NOT_ASSEMBLING, start(3, data, DAMAGED)),
+        (assembly, continuation(0, 2, assembly.register, data, MORE)),
+        (assembly, continuation(1, 3, assembly.register, data, DONE)),
+        (full, fitting(full, data, MORE)), (full, fitting(full, data, DAMAGED)),
+        (assembly, fitting(assembly, data, DAMAGED)), (assembly, fitting(assembly, data, MORE)),
+        (assembly, fitting(assembly, data, DONE)),
+    ]
+    for open_or_not in (NOT_ASSEMBLING, assembly):
+        ways += [(open_or_not, octets) for octets in (
+            late(0x00, data, DONE), closed(mframe.early_header(0x00, 0xE6), data, DONE),
+            late(codes.continuation_code(1), data, MORE), closed(mframe.early_header(0xD5, 0xE6), data, DONE),
+            closed(mframe.early_header(codes.continuation_code(1), 0x00), data, MORE, assembly.register),
+            late(EXPRESS_CODE, data, DONE), late(EXPRESS_CODE, data, MORE), late(VERIFY_CODE, data, MORE),
+            late(RESPOND_CODE, data, DONE), data, bytes(72), bytes(1531))]
+    ways.append((NOT_ASSEMBLING, fitting(assembly, data, MORE)))
+    last = GREATEST_COUNT
+    for open_or_not, octets in ways:
+        settings = [Counters(last, last, last, last), Counters(0, 0, 0, 0), Counters(last - 1, last - 1, last, last),
+                    Counters(2**31 - 1, 2**16 - 1, 2**8 - 1, 2**31)]
+        for counters in settings[:2] if len(octets) > 1000 else settings:
+            script.set_record(open_or_not, counters)
+            script.give(octets)
+    # Refused for the record: not even the counters move.
+    script.set_record(replace(assembly, kept=59), Counters(last, last, last, last))
+    script.give(late(0x00, data, DONE))
+    script.set_record()
+
+
+def many_fragments(script, chance):
+    """Frames in so many fragments that the fragment count goes round, undisturbed and disturbed."""
+    script.set_buffer(1518, 200)
+    script.want(NOT_ASSEMBLING)
+    sender = exchange.Sender()
+    for length in (1518, 1517, 700, 384, 124):
+        for octets in sender.frame(chance.octets(length), 0):
+            script.give(octets)
+    for length, ask in ((1518, 700), (1518, 1458), (1000, 300), (60, 0)):
+        for octets in sender.frame(chance.octets(length), ask):
+            script.give(octets)
+    # E, V and R between any two fragments close nothing.
+    for number, octets in enumerate(sender.frame(chance.octets(800), 0)):
+        script.give(octets)
+        script.give(mframe.express(chance.octets(60 + number)))
+        script.give(mframe.verify() if number % 2 else mframe.respond())
+        # Damaged ones and ones of no kind do not either.
+        script.give(late(EXPRESS_CODE, chance.octets(60), MORE))
+        script.give(late(VERIFY_CODE, chance.octets(60), DONE))
+        script.give(late(0x00, chance.octets(60), DONE))
+
+
+def losses(script, chance):
+    """Fragments lost: one, two, three, and four, after which the count is the expected one again."""
+    for lost in range(1, 6):
+        for at in (0, 1, 2, 5):
+            sender = exchange.Sender(next_frame_count=lost % 4)
+            mframes = sender.frame(chance.octets(124 + 64 * 8), 0)
+            script.want(NOT_ASSEMBLING)
+            for octets in mframes[:at] + mframes[at + lost:]:
+                script.give(octets)
+            # The next frame is delivered all the same.
+            for octets in sender.frame(chance.octets(130), 0):
+                script.give(octets)
+    # The end of one frame and the start of the next, or whole frames, are lost.
+    for skipped in range(1, 10):
+        sender = exchange.Sender()
+        mframes = [octets for _ in range(6) for octets in sender.frame(chance.octets(188), 0)]
+        script.want(NOT_ASSEMBLING)
+        for octets in mframes[:2] + mframes[2 + skipped:]:
+            script.give(octets)
+    # The same mFrame twice, and two the wrong way round.
+    sender = exchange.Sender()
+    mframes = sender.frame(chance.octets(500), 0)
+    for place in range(len(mframes)):
+        script.want(NOT_ASSEMBLING)
+        for octets in mframes[:place + 1] + mframes[place:]:
+            script.give(octets)
+    for place in range(len(mframes) - 1):
+        script.want(NOT_ASSEMBLING)
+        for octets in mframes[:place] + [mframes[place + 1], mframes[place]] + mframes[place + 2:]:
+            script.give(octets)
+    # After 23 nothing is in assembly: what would have fitted is 22.
+    assembly = open_assembly(chance, 1, 1, 100)
+    script.want(assembly)
+    script.give(continuation(1, 2, assembly.register, chance.octets(60), MORE))
+    script.give(fitting(assembly, chance.octets(60), MORE))
+
+
+def damage_anywhere(script, chance):
+    """One bit wrong in each octet of an mFrame of each kind."""
+    data = chance.octets(60)
+    assembly = open_assembly(chance, 3, 1, 64)
+    for octets in (late(EXPRESS_CODE, data, DONE), late(VERIFY_CODE, data, MORE), start(2, data, MORE),
+                   fitting(assembly, data, DONE)):
+        for place in range(len(octets)):
+            script.want(assembly)
+            script.give(exchange.with_bit_turned(octets, 8 * place + (3 * place + len(octets)) % 8))
+
+
+def random_histories(script, chance):
+    """Long exchanges with loss, damage, doubling, overtaking and stray octets, from a fresh record."""
+    for room, count, greatest_body, trouble in ((1518, 900, 600, 4), (1518, 800, 1518, 12), (2048, 550, 400, 30),
+                                                (1600, 550, 1518, 1)):
+        script.set_buffer(room, count % 256)
+        script.set_record()
+        for octets in exchange.over_a_noisy_row(exchange.sent_in_turn(chance, count, greatest_body), chance, trouble):
+            script.give(octets)
+
+
+def all_questions():
+    """Every question, in the order in which they are stored."""
+    script = Script()
+    chance = Chance(SEED)
+    script.set_record()
+    script.set_buffer(1518, 1)
+    for part in (every_answer, rooms, lengths, preambles, late_delimiters, early_delimiters, fragment_codes,
+                 order_of_refusals, records, running_checks, whole_checks, starts_over_an_open_assembly,
+                 drops_of_continuations, counters_going_round, many_fragments, losses, damage_anywhere,
+                 random_histories):
+        part(script, chance)
+    return script.questions

@@ -1,0 +1,125 @@
+"""Tests of the questions and answers on document 01's "Receiving".
+
+The questions are written here octet by octet, and the answers are put together by hand
+from document 01, so that the layout itself is tested.
+"""
+
+import unittest
+import zlib
+from collections import Counter
+
+import receive_format
+import receive_questions
+from receive_answers import answers
+
+
+def answer(hexadecimal):
+    return answers(bytes.fromhex(hexadecimal)).decode("ascii")
+
+
+def check(octets):
+    return zlib.crc32(octets).to_bytes(4, "little").hex()
+
+
+def memory(room, fill, written=b"", at=0):
+    before = bytes((fill + place) % 256 for place in range(room))
+    return before[:at] + written + before[at + len(written):]
+
+
+def fcs(octets):
+    return zlib.crc32(octets).to_bytes(4, "little")
+
+
+def mcrc(octets):
+    return (zlib.crc32(octets) ^ 0xFFFF0000).to_bytes(4, "little")
+
+
+DATA = bytes(range(60))
+FRESH = "01 00 00 00 0000000000000000 00000000 00000000 00000000 00000000 00000000"
+BUFFER = "02 EE05 F8"
+UNTOUCHED = check(memory(1518, 0xF8))
+
+
+def mframe(header, data, check_octets):
+    octets = bytes.fromhex(header) + data + check_octets
+    return "03" + len(octets).to_bytes(2, "little").hex() + octets.hex()
+
+
+class Answers(unittest.TestCase):
+    def test_nothing_asked(self):
+        self.assertEqual(answer(""), "")
+
+    def test_setting_puts_nothing_out(self):
+        self.assertEqual(answer(FRESH + BUFFER), "")
+
+    def test_express(self):
+        self.assertEqual(answer(FRESH + BUFFER + mframe("55555555555555D5", DATA, fcs(DATA))),
+                         f"0 60 0 0 0 0 00000000 0 0 0 0 {UNTOUCHED} 8 60 {check(DATA)}\n")
+
+    def test_the_express_body_does_not_need_the_buffer(self):
+        # Refused with 10, but the separate call gives the body all the same.
+        self.assertEqual(answer(FRESH + "02 ED05 00" + mframe("55555555555555D5", DATA, fcs(DATA))),
+                         f"10 0 0 0 0 0 00000000 0 0 0 0 {check(memory(1517, 0))} 8 60 {check(DATA)}\n")
+
+    def test_a_frame_in_two_parts(self):
+        later = bytes(range(70, 140))
+        lines = answer(FRESH + BUFFER + mframe("55555555555555B3", DATA, mcrc(DATA))
+                       + mframe("5555555555552AE6", later, fcs(DATA + later))).splitlines()
+        register = zlib.crc32(DATA) ^ 0xFFFFFFFF
+        self.assertEqual(lines, [
+            f"2 60 1 3 0 60 {register:08x} 0 0 0 0 {check(memory(1518, 0xF8, DATA))} 0 0 00000000",
+            f"1 130 0 0 0 0 00000000 0 0 1 1 {check(memory(1518, 0xF8, DATA + later))} 0 0 00000000",
+        ])
+
+    def test_record_and_memory_are_read_whole(self):
+        # Assembling, counts 2 and 1, 256 octets kept, register 00000001, counters 1, 2, 3 and the last number.
+        record = "01 01 02 01 0001000000000000 01000000 01000000 02000000 03000000 FFFFFFFF"
+        # zlib goes on from the complement of the register.
+        check_octets = zlib.crc32(DATA, 0xFFFFFFFE).to_bytes(4, "little")
+        line = answer(record + "02 0008 00" + mframe("5555555555559E4C", DATA, check_octets))
+        self.assertEqual(line, f"1 316 0 0 0 0 00000000 1 2 4 0 {check(memory(2048, 0, DATA, 256))} 0 0 00000000\n")
+
+    def test_a_refusal_hands_the_record_back(self):
+        record = "01 00 FF FE FFFFFFFFFFFFFFFF 89ABCDEF 05000000 06000000 07000000 08000000"
+        self.assertEqual(answer(record + BUFFER + "03 0000"),
+                         f"11 0 0 255 254 18446744073709551615 efcdab89 5 6 7 8 {UNTOUCHED} 0 0 00000000\n")
+
+    def test_the_bits_of_an_unknown_delimiter(self):
+        self.assertEqual(answer(FRESH + BUFFER + mframe("55555555555555AD", DATA, fcs(DATA))),
+                         f"15 4 0 0 0 0 00000000 0 1 0 0 {UNTOUCHED} 0 0 00000000\n")
+
+    def test_questions_that_break_the_layout(self):
+        for broken in ("00", "04", "01 00", "03 0100", "02 0108 00", "03 0108" + "00" * 2049,
+                       "01 02" + FRESH.replace(" ", "")[4:]):
+            with self.subTest(broken=broken[:20]), self.assertRaises(ValueError):
+                answer(broken)
+
+
+class Questions(unittest.TestCase):
+    @classmethod
+    def setUpClass(cls):
+        cls.questions = receive_questions.all_questions()
+        cls.answers = answers(b"".join(cls.questions)).decode("ascii").splitlines()
+
+    def test_record_and_buffer_are_set_before_the_first_mframe(self):
+        kinds = [question[0] for question in self.questions]
+        first_mframe = kinds.index(receive_format.MFRAME)
+        self.assertLess(kinds.index(receive_format.RECORD), first_mframe)
+        self.assertLess(kinds.index(receive_format.BUFFER), first_mframe)
+
+    def test_every_answer_is_met_often(self):
+        met = Counter(int(line.split()[0]) for line in self.answers)
+        self.assertEqual(set(met), {*range(5), *range(10, 18), *range(20, 26)})
+        self.assertGreaterEqual(min(met.values()), 10)
+
+    def test_every_number_of_bits_is_met(self):
+        details = {line.split()[1] for line in self.answers if line.startswith("15 ")}
+        self.assertEqual(details, {"1", "2", "3", "4"})
+
+    def test_sizes_stay_small(self):
+        self.assertLess(sum(len(question) for question in self.questions), 700_000)
+        self.assertLess(sum(len(line) + 1 for line in self.answers), 500_000)
+
+
+if __name__ == "__main__":
+    unittest.main()

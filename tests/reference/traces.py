@@ -1,0 +1,205 @@
+"""Makes the stored traces and their listings: document 01, "Trace and listing".
+
+    python3 tests/reference/traces.py            writes all files
+    python3 tests/reference/traces.py --check    writes nothing, compares
+"""
+
+import sys
+
+import crc
+import exchange
+import mframe
+import mmlist
+import stored
+import trace
+from chance import Chance
+from exchange import with_bit_turned
+
+SEED = 8031
+LONG_TRACE_RECORDS = 20_000
+
+
+def sample():
+    """The four records that document 01 prints, octet by octet."""
+    short = bytes.fromhex("03 00 01 00 55 55 55")
+    headers = (bytes([0x55] * 7 + [0xAD]), bytes([0x55] * 6 + [0x61, 0xE6]), bytes([0x55] * 7 + [0xD5]))
+    return short + b"".join(bytes.fromhex("48 00 01 00") + header + bytes(64) for header in headers)
+
+
+def row():
+    """A long row with noise on it: buttons are pressed while photographs are sent, and not all arrives."""
+    chance = Chance(SEED)
+    sender = exchange.Sender()
+
+    def press(number):
+        return mframe.express(bytes([number]) + b"seat button pressed" + bytes(40))
+
+    mframes = [mframe.verify(), mframe.respond()]
+    # A short preemptable frame goes whole; then presses break into a photograph.
+    mframes += sender.frame(chance.octets(90))
+    first, second, third, fourth = sender.frame(chance.octets(1100), 300)
+    mframes += [first, press(1), second, press(2), press(3), third, fourth]
+    # Of the second photograph a fragment is lost; what follows of it is of no use.
+    parts = sender.frame(chance.octets(640), 100)
+    mframes += [parts[0], press(4), parts[1], *parts[3:]]
+    # With the next start the port is in step again.
+    mframes += sender.frame(chance.octets(400), 150)
+    # Now the noise: a start is hit in its delimiter, so that its fragments belong to nothing.
+    parts = sender.frame(chance.octets(300), 0)
+    mframes += [with_bit_turned(parts[0], 57), *parts[1:]]
+    # A fragment code is hit, then the data of a fragment, then its preamble.
+    parts = sender.frame(chance.octets(300), 0)
+    mframes += [parts[0], with_bit_turned(parts[1], 58), *parts[2:]]
+    parts = sender.frame(chance.octets(260), 0)
+    mframes += [parts[0], with_bit_turned(parts[1], 8 * 30), parts[2]]
+    parts = sender.frame(chance.octets(130), 0)
+    mframes += [parts[0], with_bit_turned(parts[1], 3)]
+    # The port still waits for that fragment when the next frame starts. A press is hit, and sent again.
+    mframes += sender.frame(chance.octets(61))
+    mframes += [with_bit_turned(press(5), 8 * 12 + 1), press(5)]
+    # A press that lost an octet of its preamble, and a piece of one.
+    mframes += [press(6)[1:] + b"\x00", press(6)[40:]]
+    # The verification is repeated; the first V is hit.
+    mframes += [with_bit_turned(mframe.verify(), 8 * 70), mframe.verify(), mframe.respond()]
+    mframes += sender.frame(chance.octets(200), 64)
+    return trace.written(mframes)
+
+
+def every_answer(chance):
+    """mFrames that are answered 0 to 4, 12 to 17 and 20 to 25; 10 and 11 cannot be had from a listing."""
+    data = chance.octets(60)
+    fcs, mcrc = crc.fcs(data), crc.mcrc(data)
+    first, second, third = exchange.Sender().frame(chance.octets(200), 0)
+    full = chance.octets(1518)
+    too_much = chance.octets(1519)
+    late, early = mframe.late_header, mframe.early_header
+    return [
+        # 0, 1 of one mFrame, 2, 2 and 1 of three, 3, 4.
+        mframe.express(data), mframe.start(1, data, fcs), first, second, third, mframe.verify(), mframe.respond(),
+        # 12 twice, 13, 14.
+        b"", bytes(71), late(0xD5) + too_much + crc.fcs(too_much), bytes(6) + b"\x55\xD5" + data + fcs,
+        # 15 at place 7 twice and at place 6; 16 at place 7 and at place 6; 17.
+        late(0xAD) + data + fcs, late(0x55) + data + fcs, early(0xD4, 0xD5) + data + fcs,
+        late(0x2A) + data + mcrc, early(0xD5, 0xE6) + data + fcs, early(0x2A, 0x2A) + data + mcrc,
+        # 20 and 21 with the other's check; 22.
+        late(0xD5) + data + mcrc, late(0x07) + data + fcs, late(0x19) + data + fcs, second,
+        # 23 by the fragment count, after which the right one is 22; 23 by the frame count.
+        first, third, second, first, mframe.continuation(1, 0, data, mcrc),
+        # 24; 25 of a continuation whose check was begun anew, and of a start.
+        mframe.start(2, full, crc.mcrc(full)), mframe.continuation(2, 0, data, crc.fcs(full + data)),
+        first, mframe.continuation(0, 0, data, mcrc), mframe.start(3, data, bytes(4)),
+        # A damaged start and a good one over an open assembly.
+        first, mframe.start(3, data, bytes(4)), first, first, second, third,
+        # Bodies as long as can be: in one mFrame, express, in two.
+        mframe.start(0, full, crc.fcs(full)), mframe.express(full),
+        mframe.start(1, full[:1458], crc.mcrc(full[:1458])),
+        mframe.continuation(1, 0, full[1458:], crc.fcs(full)),
+    ]
+
+
+def damage_in_every_field(chance):
+    """Each octet of the header, some of the data and each of the check, one bit wrong, for every kind."""
+    first, second, third = exchange.Sender(next_frame_count=3).frame(chance.octets(200), 0)
+    places = (*range(8), 8, 9, 30, -5, -4, -3, -2, -1)
+    mframes = []
+    for octets, before in ((mframe.express(chance.octets(60)), []), (mframe.verify(), []), (mframe.respond(), []),
+                           (first, []), (second, [first]), (third, [first, second])):
+        for place in places:
+            mframes += before + [with_bit_turned(octets, 8 * (place % len(octets)) + chance.below(8))]
+    return mframes
+
+
+def every_refused_length(chance):
+    """Good records of 0 to 71 and of 1,531 to 1,600 octets, with headers of all kinds; a fragment waits between."""
+    first, second, third = exchange.Sender().frame(chance.octets(200), 0)
+    headers = (mframe.late_header(0xD5), mframe.late_header(0xE6), mframe.early_header(0x61, 0xE6),
+               mframe.late_header(0x07), mframe.late_header(0x00), bytes(8))
+    mframes = [first]
+    for number, length in enumerate((*range(72), *range(1531, 1601))):
+        mframes.append((headers[number % len(headers)] + chance.octets(length))[:length])
+    return mframes + [second, third]
+
+
+def answers():
+    chance = Chance(SEED + 1)
+    return trace.written(every_answer(chance) + damage_in_every_field(chance) + every_refused_length(chance))
+
+
+def small_parts(chance, count):
+    """So many mFrames, nearly all as short as can be: the trace is to have many records and not many octets."""
+    sender = exchange.Sender()
+    mframes = []
+    while len(mframes) < count:
+        which = chance.below(12)
+        if which == 0:
+            mframes.append(mframe.verify() if chance.below(2) == 0 else mframe.respond())
+        elif which < 4:
+            mframes.append(mframe.express(chance.octets(chance.between(60, 62))))
+        elif which < 11:
+            # Parts of 64 octets each, and a little over 60 in the last.
+            pieces = chance.below(4) if chance.below(30) else chance.between(4, 22)
+            body = chance.octets(min(1518, 64 * pieces + chance.between(60, 64)))
+            for octets in sender.frame(body, chance.below(65)):
+                mframes.append(octets)
+                # A press breaks in where a fragment ends.
+                if chance.below(6) == 0:
+                    mframes.append(mframe.express(chance.octets(60)))
+        elif chance.below(25) == 0:
+            mframes += sender.frame(chance.octets(chance.between(200, 1518)), chance.below(1500))
+    return mframes
+
+
+def long():
+    """20,000 records: a long exchange with loss and damage, and pieces of noise in great number."""
+    chance = Chance(SEED + 2)
+    mframes = []
+    for octets in exchange.over_a_noisy_row(small_parts(chance, LONG_TRACE_RECORDS), chance, 7):
+        mframes.append(octets)
+        if chance.below(7) == 0:
+            # Mostly short pieces, seldom one that is longer than any mFrame.
+            mframes.append(chance.octets(chance.below(40) if chance.below(250) else chance.between(1531, 1600)))
+    return trace.written(mframes[:LONG_TRACE_RECORDS])
+
+
+def before_a_refused_record():
+    """Some good records, of which each counter has something, and an assembly left open."""
+    first, second, third = exchange.Sender().frame(Chance(SEED + 3).octets(190), 0)
+    return trace.written([first, second, third, second, first, first])
+
+
+def behind_a_refused_record():
+    """What must not be read any more."""
+    return trace.written([mframe.verify(), mframe.respond()])
+
+
+def all_traces():
+    """Every trace by its name."""
+    good, behind = before_a_refused_record(), behind_a_refused_record()
+    whole = mframe.verify()
+    return {
+        "list_sample": sample(),
+        "list_row": row(),
+        "list_answers": answers(),
+        "list_long": long(),
+        # Three octets of a header, as they could begin a good record.
+        "list_50": good + trace.HEADER.pack(72, 1)[:3],
+        # One octet too long, all there, and of another kind as well: 51 comes first.
+        "list_51": good + trace.HEADER.pack(1601, 2) + bytes(1601) + behind,
+        # 257 has a 1 in its lower octet. The content is cut as well: 52 comes first.
+        "list_52": good + trace.HEADER.pack(72, 257) + whole[:50],
+        # All of a V but its last octet.
+        "list_53": good + trace.HEADER.pack(72, 1) + whole[:-1],
+        "list_empty": b"",
+    }
+
+
+def files():
+    made = []
+    for name, octets in all_traces().items():
+        made.append(stored.StoredFile(f"crates/{name}/stdin", octets, is_text=False))
+        made.append(stored.StoredFile(f"crates/{name}/stdout", mmlist.listing(octets).encode("ascii"), is_text=True))
+    return made
+
+
+if __name__ == "__main__":
+    sys.exit(stored.run(files(), sys.argv[1:]))
