@@ -51,3 +51,8 @@ pub fn hex_octets(x: &[u8]) {
 fn hex_octet(x: u8) {
     io::print_hex(STDOUT_FILENO, x as u64, 2);
 }
+
+// 1 or 0.
+pub fn flag(x: bool) {
+    small(x as u8);
+}

@@ -1,0 +1,70 @@
+-- Answers told in the paper's numbers: what is told gives the answer back, so no second answer meets a promise of this crate.
+-- Assumes nothing.
+use mathlib.Core.Path.{_≡_, refl, sym, ap, _∙_}
+use mathlib.Core.Bool.{Bool, cond}
+use mathlib.Core.List.{List}
+use Prim.Native.Nat.{ℕ}
+use lib.Dec.{eqb}
+use lib.ListN.{length}
+use Rattle.octets.specs.Laid.{over}
+use Rattle.mframe.specs.Sending.{Said, wrote, refused, said, Outcome, write, Answered, Laid}
+use Rattle.mframe.specs.Head.{Reading, reading, headOf}
+use Rattle.mframe.specs.Head as H
+use Rattle.mframe.specs.declared.Answer.{Answer}
+use Rattle.mframe.specs.declared.Answer.the-variants.{Wrote, Refused}
+use Rattle.mframe.specs.declared.Refusal.the-variants.{Output, Record, Body, Length, Hold}
+use Rattle.mframe.specs.declared.Head.{Head}
+use Rattle.mframe.specs.declared.Head.the-variants as Heads
+use Rattle.mframe.specs.declared.Fault.the-variants.{Short, Long, Preamble, Delimiter, Place, Fragment}
+
+-- an mFrame laid, which is the one asked for, is an answer with its octets
+pub written : {f g out out′ : List ℕ} {n : ℕ} {done : Bool} → Laid f out n out′ → f ≡ g → Answered (write g done) out (Wrote n done) out′
+written {f} {g} {out} {out′} {n} {done} l e =
+    record { answer = ap (λ (k : ℕ). wrote k done) (l .count ∙ ap length e); octets = l .octets ∙ ap (λ (x : List ℕ). over x out) e }
+
+-- the answer of a sending call, from what it is told as
+unsaid : Said → Answer
+unsaid (wrote n done) = Wrote n done
+unsaid (refused k) =
+    Refused (cond (eqb k 30) Output (cond (eqb k 31) Record (cond (eqb k 32) Body (cond (eqb k 33) Length Hold))))
+
+back : (a : Answer) → unsaid (said a) ≡ a
+unfolding unsaid
+back (Wrote n done) = refl
+back (Refused Output) = refl
+back (Refused Record) = refl
+back (Refused Body) = refl
+back (Refused Length) = refl
+back (Refused Hold) = refl
+
+pub said-one : {a b : Answer} → said a ≡ said b → a ≡ b
+said-one {a} {b} e = sym (back a) ∙ ap unsaid e ∙ back b
+
+-- express, verify, respond: no second answer, and no other octets
+pub answered-once : (o : Outcome) (out : List ℕ) {a b : Answer} {x y : List ℕ} → Answered o out a x → Answered o out b y → (a ≡ b) × (x ≡ y)
+answered-once o out p q = (said-one (p .answer ∙ sym (q .answer)), p .octets ∙ sym (q .octets))
+
+-- lay: no second number, and no other octets
+pub lay-once : (mFrame out : List ℕ) {m n : ℕ} {x y : List ℕ} → Laid mFrame out m x → Laid mFrame out n y → (m ≡ n) × (x ≡ y)
+lay-once mFrame out p q = (p .count ∙ sym (q .count), p .octets ∙ sym (q .octets))
+
+-- a head, from what it is told as
+unread : Reading → Head
+unread (H.known kind place) = Heads.Known kind place
+unread (H.refused k bits) =
+    Heads.Refused
+    (cond (eqb k 12) Short (cond (eqb k 13) Long (cond (eqb k 14) Preamble (cond (eqb k 15) (Delimiter bits) (cond (eqb k 16) Place Fragment)))))
+
+again : (h : Head) → unread (reading h) ≡ h
+unfolding unread
+again (Heads.Known kind place) = refl
+again (Heads.Refused Short) = refl
+again (Heads.Refused Long) = refl
+again (Heads.Refused Preamble) = refl
+again (Heads.Refused (Delimiter bits)) = refl
+again (Heads.Refused Place) = refl
+again (Heads.Refused Fragment) = refl
+
+-- head_of: no second head
+pub head-of-once : (m : List ℕ) {x y : Head} → reading x ≡ headOf m → reading y ≡ headOf m → x ≡ y
+head-of-once m {x} {y} p q = sym (again x) ∙ ap unread (p ∙ sym q) ∙ again y

@@ -1,0 +1,91 @@
+// The head of any octets: the kind with its counts and where the data begin, or the refusal.
+use crate::Fault;
+use crate::Head;
+use crate::Kind;
+use codes::Delimiter;
+use codes::Fragment;
+use codes::FrameCount;
+ghost use mathlib.Core.Path.{_≡_};
+ghost use Prim.Native.Nat.{_≤_};
+ghost use lib.ListN.{length, take};
+ghost use Rattle.codes.specs.Codes.{delimiterOf, fragmentOf};
+ghost use Rattle.mframe.specs.Head.{all55, reading, sevenOf, sixOf, codedOf, headOf};
+
+// The least and the greatest mFrame.
+const LEAST: usize = 72;
+
+const MOST: usize = 1530;
+
+// Where the data begin.
+const DATA: usize = 8;
+
+// Whether the octets of places 0 to 5 are 55.
+fn preambled(mframe: &[u8]) -> bool
+    requires { ⌜ 6 ≤ length (now mframe) ⌝ }
+    ensures { λ r. ⌜ r ≡ all55 (take 6 (now (mframe .entry))) ⌝ }
+{
+    let mut i = 0;
+    while i < 6 {
+        if mframe[i] != 0x55 {
+            return false;
+        }
+        i += 1;
+    }
+    true
+}
+
+// A delimiter at place 7.
+fn at_seven(octet: u8) -> Head
+    ensures { λ r. ⌜ reading r ≡ sevenOf (delimiterOf octet) ⌝ }
+{
+    match codes::delimiter_of(octet) {
+        Delimiter::Express => Head::Known(Kind::Express, DATA),
+        Delimiter::Start(frame) => Head::Known(Kind::Start(frame), DATA),
+        Delimiter::Continuation(_) => Head::Refused(Fault::Place),
+        Delimiter::Verify => Head::Known(Kind::Verify, DATA),
+        Delimiter::Respond => Head::Known(Kind::Respond, DATA),
+        Delimiter::Unknown(bits) => Head::Refused(Fault::Delimiter(bits)),
+    }
+}
+
+// A continuation's fragment code.
+fn coded(frame: FrameCount, octet: u8) -> Head
+    ensures { λ r. ⌜ reading r ≡ codedOf frame (fragmentOf octet) ⌝ }
+{
+    match codes::fragment_of(octet) {
+        Fragment::Known(fragment) => Head::Known(Kind::Continuation(frame, fragment), DATA),
+        Fragment::Unknown => Head::Refused(Fault::Fragment),
+    }
+}
+
+// A delimiter at place 6, with the octet after it.
+fn at_six(octet: u8, code: u8) -> Head
+    ensures { λ r. ⌜ reading r ≡ sixOf (delimiterOf octet) (fragmentOf code) ⌝ }
+{
+    match codes::delimiter_of(octet) {
+        Delimiter::Continuation(frame) => coded(frame, code),
+        Delimiter::Express => Head::Refused(Fault::Place),
+        Delimiter::Start(_) => Head::Refused(Fault::Place),
+        Delimiter::Verify => Head::Refused(Fault::Place),
+        Delimiter::Respond => Head::Refused(Fault::Place),
+        Delimiter::Unknown(bits) => Head::Refused(Fault::Delimiter(bits)),
+    }
+}
+
+pub fn head_of(mframe: &[u8]) -> Head
+    ensures { λ r. ⌜ reading r ≡ headOf (now (mframe .entry)) ⌝ }
+{
+    if mframe.len() < LEAST {
+        return Head::Refused(Fault::Short);
+    }
+    if MOST < mframe.len() {
+        return Head::Refused(Fault::Long);
+    }
+    if preambled(mframe) {
+        if mframe[6] == 0x55 {
+            return at_seven(mframe[7]);
+        }
+        return at_six(mframe[6], mframe[7]);
+    }
+    Head::Refused(Fault::Preamble)
+}

@@ -1,0 +1,196 @@
+-- What the sending tests leave: of the body 60 octets or more are not yet sent; and a record in range stays in range.
+-- Assumes nothing.
+use mathlib.Core.Path.{_≡_, refl, sym, _∙_}
+use mathlib.Core.Logic.{_⊎_, inl, inr, ⊎-elim}
+use mathlib.Core.Bool.{Bool, true, false, cond, not, _&&_, _||_, false≢true}
+use mathlib.Core.List.{List}
+use mathlib.Core.Option.{Option, none, some}
+use Prim.Native.Nat.{ℕ, _+_, _≤_}
+use native.Mathlib.Omega.{arith}
+use borrow.Author.Tests.{eqb-true, leb-true, le-leb, ltb-false, ne-eqb, not-false}
+use lib.Dec.{eqb, leb, ltb}
+use lib.ListN.{length}
+use Rattle.codes.specs.Codes.{fragment, nextFrame, nextFragment}
+use Rattle.codes.specs.declared.FrameCount.{FrameCount}
+use Rattle.codes.specs.declared.FragmentCount.{FragmentCount}
+use Rattle.cut.specs.Cut.{minimum, partOf}
+use Rattle.cut.specs.declared.Ask.{Ask}
+use Rattle.cut.specs.declared.Part.{Part}
+use Rattle.cut.specs.declared.Part.the-variants.{Whole, Cut}
+use Rattle.cut.proofs.Laws.{cut-room}
+use Rattle.mframe.specs.Sending.{short, outside}
+use Rattle.send.specs.Record.{idle, going, inRange, differs, held}
+use Rattle.send.specs.Preemptable.{firstOf, refusalOf, partNow, endOf, isDone, frameAfter, fragmentAfter, recordAfter, sentOf, unless, preemptableOf}
+use Rattle.send.specs.declared.Record.{Record}
+
+-- the part that goes, by whether the port is active
+pub part-active : (r : Record) (n : ℕ) (ask : Ask) → r .active ≡ true → partNow r n ask ≡ partOf (n + 4) (r .sent) (minimum (r .extra)) ask
+unfolding partNow
+part-active r n ask e = simp e
+
+pub part-inactive : (r : Record) (n : ℕ) (ask : Ask) → r .active ≡ false → partNow r n ask ≡ Whole
+unfolding partNow
+part-inactive r n ask e = simp e
+
+-- tests of tests
+both : (a b : Bool) → (a && b) ≡ true → (a ≡ true) × (b ≡ true)
+both true b e = (refl, e)
+both false b e = absurd (false≢true e)
+
+either : (a b : Bool) → (a || b) ≡ true → (a ≡ true) ⊎ (b ≡ true)
+either true b e = inl refl
+either false b e = inr e
+
+neither : (a b : Bool) → (a || b) ≡ false → (a ≡ false) × (b ≡ false)
+neither true b e = absurd (false≢true (sym e))
+neither false b e = (refl, e)
+
+same-or : (a b : Bool) → (not a && not b) ≡ false → a ≡ false → b ≡ true
+same-or true b e f = absurd (false≢true (sym f))
+same-or false true e f = refl
+same-or false false e f = sym e
+
+-- what a record in range has: no frame in progress, or one of which 60 octets or more are not yet sent
+pub record Idle (r : Record) : Type 0 where
+  pub no-length : r .length ≡ 0
+  pub no-sent : r .sent ≡ 0
+  pub no-fragment : r .fragment .0 ≡ 0
+
+pub record Going (r : Record) : Type 0 where
+  pub least : 60 ≤ r .length
+  pub most : r .length ≤ 1518
+  pub begun : 60 ≤ r .sent
+  pub left : r .sent + 60 ≤ r .length
+  pub small : r .fragment .0 ≤ 3
+
+pub record Range (r : Record) : Type 0 where
+  pub extra : r .extra ≤ 3
+  pub next : r .next .0 ≤ 3
+  pub frame : Idle r ⊎ Going r
+
+idle-known : (r : Record) → idle r ≡ true → Idle r
+unfolding idle
+idle-known r e =
+    let a = both (eqb (r .length) 0) (eqb (r .sent) 0 && eqb (r .fragment .0) 0) e in
+    let b = both (eqb (r .sent) 0) (eqb (r .fragment .0) 0) (a .1) in
+    record { no-length = eqb-true _ _ (a .0); no-sent = eqb-true _ _ (b .0); no-fragment = eqb-true _ _ (b .1) }
+
+going-known : (r : Record) → going r ≡ true → Going r
+unfolding going
+going-known r e =
+    let a = both (leb 60 (r .length)) _ e in
+    let b = both (leb (r .length) 1518) _ (a .1) in
+    let c = both (leb 60 (r .sent)) _ (b .1) in
+    let d = both (leb (r .sent + 60) (r .length)) (leb (r .fragment .0) 3) (c .1) in
+    record { least = leb-true _ _ (a .0); most = leb-true _ _ (b .0); begun = leb-true _ _ (c .0); left = leb-true _ _ (d .0); small = leb-true _ _ (d .1) }
+
+pub range-known : (r : Record) → inRange r ≡ true → Range r
+unfolding inRange
+range-known r e =
+    let a = both (leb (r .extra) 3) _ e in
+    let b = both (leb (r .next .0) 3) (idle r || going r) (a .1) in
+    record {
+      extra = leb-true _ _ (a .0);
+      next = leb-true _ _ (b .0);
+      frame = ⊎-elim (λ i. inl (idle-known r i)) (λ g. inr (going-known r g)) (either (idle r) (going r) (b .1));
+    }
+
+same-known : (r : Record) (n : ℕ) → differs r n ≡ false → (r .length ≡ 0 → ⊥) → r .length ≡ n
+unfolding differs
+same-known r n e z = eqb-true _ _ (same-or _ _ e (ne-eqb _ _ z))
+
+-- what is known where none of the table's refusals applies
+pub record Passed (r : Record) (n room : ℕ) : Type 0 where
+  pub buffer : 1530 ≤ room
+  pub range : Range r
+  pub least : 60 ≤ n
+  pub most : n ≤ 1518
+  pub same : (r .length ≡ 0 → ⊥) → r .length ≡ n
+  pub left : r .sent + 60 ≤ n
+
+-- the table's tests, one after the other
+record None (a b c d e : Bool) : Type 0 where
+  none30 : a ≡ false
+  none31 : b ≡ false
+  none32 : c ≡ false
+  none33 : d ≡ false
+  none34 : e ≡ false
+
+table-none : (a b c d e : Bool) → firstOf a b c d e ≡ none → None a b c d e
+table-none true b c d e h = let z : _≡_ {A = ℕ} 0 1 = cc in absurd (let y : ⊥ = omega arith in y)
+table-none false true c d e h = let z : _≡_ {A = ℕ} 0 1 = cc in absurd (let y : ⊥ = omega arith in y)
+table-none false false true d e h = let z : _≡_ {A = ℕ} 0 1 = cc in absurd (let y : ⊥ = omega arith in y)
+table-none false false false true e h = let z : _≡_ {A = ℕ} 0 1 = cc in absurd (let y : ⊥ = omega arith in y)
+table-none false false false false true h = let z : _≡_ {A = ℕ} 0 1 = cc in absurd (let y : ⊥ = omega arith in y)
+table-none false false false false false h = record { none30 = refl; none31 = refl; none32 = refl; none33 = refl; none34 = refl }
+
+pub passed : (r : Record) (n room : ℕ) → refusalOf r n room ≡ none → Passed r n room
+unfolding refusalOf
+passed r n room e =
+    let k = table-none (short room) (not (inRange r)) (outside n) (differs r n) (held r) e in
+    let o = neither (ltb n 60) (ltb 1518 n) (k .none32) in
+    let g = range-known r (not-false (inRange r) (k .none31)) in
+    let low = ltb-false n 60 (o .0) in
+    let same = same-known r n (k .none33) in
+    record {
+      buffer = ltb-false room 1530 (k .none30);
+      range = g;
+      least = low;
+      most = ltb-false 1518 n (o .1);
+      same = same;
+      left = ⊎-elim (λ (i : Idle r). omega (arith, i .no-sent)) (λ (w : Going r). omega (arith, w .left, same (omega (arith, w .least)))) (g .frame);
+    }
+
+-- a cut part has 60 octets or more, and leaves 60 of the body or more
+pub record Within (r : Record) (n to : ℕ) : Type 0 where
+  pub part : r .sent + 60 ≤ to
+  pub left : to + 60 ≤ n
+
+pub cut-within : (r : Record) (n : ℕ) (ask : Ask) (k : ℕ) → partNow r n ask ≡ Cut k → Within r n (r .sent + k)
+unfolding partNow
+cut-within r n ask k e = by (r .active) refl
+  where
+    by : (b : Bool) → r .active ≡ b → Within r n (r .sent + k)
+    by true q =
+        let w = cut-room (n + 4) (r .sent) (minimum (r .extra)) ask k (sym (part-active r n ask q) ∙ e) in
+        record { part = omega (arith, w .0); left = omega (arith, w .1) }
+    by false q = absurd (let z : _≡_ {A = ℕ} 0 1 = (let w = sym (part-inactive r n ask q) ∙ e in cc) in let y : ⊥ = omega arith in y)
+
+-- the record afterwards is in range
+frame-small : (a b : Bool) (x : FrameCount) → x .0 ≤ 3 → cond a (cond b (nextFrame x) x) x .0 ≤ 3
+frame-small true true x h = omega arith
+frame-small true false x h = h
+frame-small false b x h = h
+
+fragment-small : (a : Bool) (x : FragmentCount) → cond a (fragment 0) (nextFragment x) .0 ≤ 3
+fragment-small true x = omega arith
+fragment-small false x = omega arith
+
+after-in-range : (r : Record) (n : ℕ) (p : Part) → Range r → n ≤ 1518 → ((k : ℕ) → p ≡ Cut k → Within r n (r .sent + k))
+    → inRange (recordAfter r n (endOf (r .sent) n p) (isDone p)) ≡ true
+unfolding inRange idle going frameAfter fragmentAfter
+after-in-range r n Whole g h w =
+    simp (le-leb (r .extra) 3 (g .extra), le-leb (frameAfter r .0) 3 (frame-small (eqb (r .length) 0) (r .active) (r .next) (g .next)))
+after-in-range r n (Cut k) g h w =
+    let b = w k refl in
+    simp (
+      le-leb (r .extra) 3 (g .extra),
+      le-leb (frameAfter r .0) 3 (frame-small (eqb (r .length) 0) (r .active) (r .next) (g .next)),
+      ne-eqb n 0 (omega (arith, b .left)),
+      le-leb 60 n (omega (arith, b .left)),
+      le-leb n 1518 h,
+      le-leb 60 (r .sent + k) (omega (arith, b .part)),
+      le-leb (r .sent + k + 60) n (b .left),
+      le-leb (fragmentAfter r .0) 3 (fragment-small (eqb (r .length) 0) (r .fragment)),
+    )
+
+-- from a record in range every call hands back a record in range
+pub stays-in-range : (r : Record) (body : List ℕ) (ask : Ask) (room : ℕ) → inRange r ≡ true → inRange (preemptableOf r body ask room .after) ≡ true
+unfolding sentOf
+stays-in-range r body ask room e = by (refusalOf r (length body) room) refl
+  where
+    by : (o : Option ℕ) → refusalOf r (length body) room ≡ o → inRange (unless o r (sentOf r body ask) .after) ≡ true
+    by (some k) q = e
+    by none q =
+        let k = passed r (length body) room q in
+        after-in-range r (length body) (partNow r (length body) ask) (k .range) (k .most) (cut-within r (length body) ask)

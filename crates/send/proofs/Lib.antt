@@ -1,0 +1,5 @@
+pub mod Laws
+pub mod Numbered
+pub mod Once
+pub mod Rules
+pub mod Whole

@@ -1,0 +1,3 @@
+pub mod Preemptable
+pub mod Record
+pub mod Whole
