@@ -6,7 +6,7 @@ import mmlist
 import trace
 import traces
 
-NAMES = ["list_sample", "list_row", "list_answers", "list_long", "list_50", "list_51", "list_52", "list_53",
+NAMES = ["list_sample", "mmlist", "list_answers", "list_long", "list_50", "list_51", "list_52", "list_53",
          "list_empty"]
 
 
@@ -27,7 +27,7 @@ class Traces(unittest.TestCase):
 
     def test_row(self):
         # Typed by hand from the story that row() tells.
-        self.assertEqual(self.answers("list_row"), [
+        self.assertEqual(self.answers("mmlist"), [
             3, 4, 1,
             2, 0, 2, 0, 0, 2, 1,
             2, 0, 2, 23, 22, 22,
@@ -38,7 +38,7 @@ class Traces(unittest.TestCase):
             2, 14, 1, 20, 0, 16, 12,
             21, 3, 4, 2, 2, 1,
         ])
-        self.assertEqual(self.listings["list_row"][-1], "end 4 10 3 8")
+        self.assertEqual(self.listings["mmlist"][-1], "end 4 10 3 8")
 
     def test_answers(self):
         # Typed by hand, each beside the mFrame it belongs to.

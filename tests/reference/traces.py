@@ -178,7 +178,7 @@ def all_traces():
     whole = mframe.verify()
     return {
         "list_sample": sample(),
-        "list_row": row(),
+        "mmlist": row(),
         "list_answers": answers(),
         "list_long": long(),
         # Three octets of a header, as they could begin a good record.

@@ -1,8 +1,10 @@
-// The lines of the listing (document 01, "Trace and listing"), laid into lent memory.
+// The lines of the listing (document 01, "Trace and listing"), laid into lent memory, and what a record of the trace makes.
+use answers::Record;
 ghost use Prim.Native.Nat.{_+_, _≤_};
 ghost use lib.ListN.{length};
 ghost use Rattle.text.specs.Text.{Put};
 ghost use Rattle.listing.specs.Lines.{titleLine, recordLine, stopLine, endLine, pairLine};
+ghost use Rattle.listing.specs.Lists.{Lists};
 
 // The title.
 pub fn title(out: &mut [u8], at: usize) -> usize
@@ -56,4 +58,30 @@ pub fn end_line(
     let second = text::next_number(errors, out, first);
     let third = text::next_number(delimiters, out, second);
     pair(assembled, fragments, out, third)
+}
+
+// What a record of the trace makes: the receiving record after it, and the place behind its line.
+pub struct Listed {
+    pub after: Record,
+    pub next: usize,
+}
+
+// One record of the trace, given to the receiver, and its line.
+pub fn list(
+    number: u64,
+    content: &[u8],
+    record: Record,
+    buffer: &mut [u8],
+    out: &mut [u8],
+    at: usize,
+) -> Listed
+    requires { ⌜ at + 63 ≤ length (now out) ⌝ }
+    ensures { λ l. ⌜ Lists number (now (content .entry)) «record» (now (buffer .entry)) (now (out .entry)) at l (now (buffer .exit)) (now (out .exit)) ⌝ }
+{
+    let got = receive::receive(content, record, buffer);
+    let answer = got.answer;
+    let said = answer.said();
+    let next = record_line(number, said.number as u64, said.detail as u64, out, at);
+    let after = got.after;
+    Listed { after, next }
 }

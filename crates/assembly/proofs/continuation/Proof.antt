@@ -1,0 +1,97 @@
+-- `assembly::continuation` meets its contract.
+-- Assumes nothing.
+use Rattle.assembly.proofs.Continuing.{closed, miscounted, too-long, passed}
+use mathlib.Core.Path.{_∙_}
+use borrow.Author.Needs.{needs}
+use Rattle.assembly.proofs.continuation.Statement.{statement}
+use Rattle.assembly.proofs.continuation.Tie as tie
+
+assembly-of-requires : tie.Need-assembly-of-requires
+assembly-of-requires c κs = search needs
+
+enum-known-frame : tie.Need-enum-known-frame
+enum-known-frame c = search needs
+
+enum-told : tie.Need-enum-told
+enum-told c = search needs
+
+unchanged-requires : tie.Need-unchanged-requires
+unchanged-requires c κs = search needs
+
+returns : tie.Need-returns
+returns c =
+    c .unchanged .ensures ∙ closed _ _ _ _ (c .before .before .before .assembly-of .ensures) (c .before .enum-told .given .1)
+
+counts-of-requires : tie.Need-counts-of-requires
+counts-of-requires c κs = search needs
+
+enum-told-2 : tie.Need-enum-told-2
+enum-told-2 c = search needs
+
+enum-told-3 : tie.Need-enum-told-3
+enum-told-3 c = search needs
+
+abandoned-requires : tie.Need-abandoned-requires
+abandoned-requires c κs = search needs
+
+returns-2 : tie.Need-returns-2
+returns-2 c =
+    c .abandoned .ensures
+    ∙ miscounted _ _ _ _ (c .before .before .before .before .before .before .before .assembly-of .ensures) (c .before .before .before .before .before .frame .given .1)
+    (c .before .before .before .counts-of .ensures) (c .before .enum-told3 .given .1)
+
+room-for-requires : tie.Need-room-for-requires
+room-for-requires c κs = search needs
+
+enum-known-total : tie.Need-enum-known-total
+enum-known-total c = search needs
+
+enum-told-4 : tie.Need-enum-told-4
+enum-told-4 c = search needs
+
+abandoned-requires-2 : tie.Need-abandoned-requires-2
+abandoned-requires-2 c κs = search needs
+
+returns-3 : tie.Need-returns-3
+returns-3 c =
+    c .abandoned2 .ensures
+    ∙ too-long _ _ _ _ (c .before .before .before .before .before .before .before .before .before .before .assembly-of .ensures) (c .before .before .before .before .before .before .before .before .frame .given .1)
+    (c .before .before .before .before .before .before .counts-of .ensures)
+    (c .before .before .before .before .enum-told2 .given .1) (c .before .before .before .room-for .ensures) (c .before .enum-told4 .given .1)
+
+judge-requires : tie.Need-judge-requires
+judge-requires c κs = search needs
+
+ended-requires : tie.Need-ended-requires
+ended-requires c κs = search needs
+
+returns-4 : tie.Need-returns-4
+returns-4 c =
+    c .ended .ensures
+    ∙ passed _ _ _ _ (c .before .before .before .before .before .before .before .before .before .before .before .before .assembly-of .ensures) (c .before .before .before .before .before .before .before .before .before .before .frame .given .1)
+    (c .before .before .before .before .before .before .before .before .counts-of .ensures)
+    (c .before .before .before .before .before .before .enum-told2 .given .1) (c .before .before .before .before .before .room-for .ensures) (c .before .before .before .total .given .1)
+    (c .before .judge .ensures)
+
+pub continuation-spec : {M : Type 1} → statement M
+continuation-spec =
+    tie.close
+    (tie.spec
+    assembly-of-requires
+    enum-known-frame
+    enum-told
+    unchanged-requires
+    returns
+    counts-of-requires
+    enum-told-2
+    enum-told-3
+    abandoned-requires
+    returns-2
+    room-for-requires
+    enum-known-total
+    enum-told-4
+    abandoned-requires-2
+    returns-3
+    judge-requires
+    ended-requires
+    returns-4)

@@ -1,0 +1,25 @@
+-- `assembly::delimiter_error` meets its contract.
+-- Assumes nothing.
+use borrow.Author.Tests.{ne-eqb}
+use Rattle.assembly.proofs.delimiter_error.Statement.{statement}
+use Rattle.assembly.proofs.delimiter_error.Tie as tie
+
+returns : tie.Need-returns
+returns c = simp (c .match .keys1)
+
+returns-2 : tie.Need-returns-2
+returns-2 c = simp (c .match .keys2)
+
+returns-3 : tie.Need-returns-3
+returns-3 c = simp (c .match .keys3)
+
+returns-4 : tie.Need-returns-4
+returns-4 c = simp (c .match .keys4)
+
+returns-5 : tie.Need-returns-5
+returns-5 c =
+    let r = c .match .rest in
+    simp (ne-eqb _ _ (r .1), ne-eqb _ _ (r .0 .1), ne-eqb _ _ (r .0 .0 .1), ne-eqb _ _ (r .0 .0 .0 .1))
+
+pub delimiter-error-spec : {M : Type 1} → statement M
+delimiter-error-spec = tie.close (tie.spec returns returns-2 returns-3 returns-4 returns-5)

@@ -1,0 +1,36 @@
+-- What the answers of a continuation's tests 22, 23 and 24 mean. Assumes nothing.
+use mathlib.Core.Path.{_≡_}
+use mathlib.Core.Bool.{Bool, true, false}
+use Prim.Native.Nat.{ℕ, _≤_, _<_}
+use Rattle.codes.specs.declared.FrameCount.{FrameCount}
+use Rattle.codes.specs.declared.FragmentCount.{FragmentCount}
+use Rattle.answers.specs.declared.Record.{Record}
+use Rattle.assembly.specs.declared.Assembly.{Assembly}
+use Rattle.assembly.specs.declared.Assembly.the-variants as A
+use Rattle.assembly.specs.declared.Counts.{Counts}
+use Rattle.assembly.specs.declared.Counts.the-variants as C
+use Rattle.assembly.specs.declared.Room.{Room}
+use Rattle.assembly.specs.declared.Room.the-variants as R
+
+-- an assembly that is open, with what the record says of it
+pub record Opened (r : Record) (frame : FrameCount) (fragment : FragmentCount) (kept running : ℕ) : Type 0 where
+  pub assembling : r .assembling ≡ true
+  pub frame-is : frame ≡ r .frame
+  pub fragment-is : fragment ≡ r .fragment
+  pub kept-is : kept ≡ r .kept
+  pub running-is : running ≡ r .running
+
+-- 22
+abbrev pub Assembled : Record → Assembly → Type 0
+Assembled r (A.Open frame fragment kept running) = Opened r frame fragment kept running
+Assembled r A.Closed = r .assembling ≡ false
+
+-- 23
+abbrev pub other : Counts → Bool
+other C.Expected = false
+other C.Other = true
+
+-- 24: the octets kept and the data, so many in all
+abbrev pub Fits : ℕ → Room → Type 0
+Fits total (R.Enough n) = (n ≡ total) × (total ≤ 1518)
+Fits total R.Over = 1518 < total

@@ -1,0 +1,45 @@
+-- `lister::stop` is safe: the place found leaves room for the line.
+-- Assumes nothing.
+use native.Mathlib.Omega.{arith}
+use borrow.Author.Needs.{needs}
+use Rattle.lister.proofs.stop.Statement.{statement}
+use Rattle.lister.proofs.stop.Tie as tie
+
+place-for-line-requires : tie.Need-place-for-line-requires
+place-for-line-requires c κs = search needs
+
+enum-known-at : tie.Need-enum-known-at
+enum-known-at c = search needs
+
+enum-told : tie.Need-enum-told
+enum-told c = search needs
+
+same-length : tie.Need-same-length
+same-length c = search needs
+
+returns : tie.Need-returns
+returns c = search needs
+
+stop-line-requires : tie.Need-stop-line-requires
+stop-line-requires c κs =
+    let room = rw (c .before .before .at .given .1) at (c .before .before .before .before .place-for-line .ensures) in
+    omega (arith, room)
+
+same-length-2 : tie.Need-same-length-2
+same-length-2 c = search needs
+
+returns-2 : tie.Need-returns-2
+returns-2 c = search needs
+
+pub stop-spec : {M : Type 1} → statement M
+stop-spec =
+    tie.close
+    (tie.spec
+    place-for-line-requires
+    enum-known-at
+    enum-told
+    same-length
+    returns
+    stop-line-requires
+    same-length-2
+    returns-2)

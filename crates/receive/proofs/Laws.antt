@@ -1,0 +1,112 @@
+-- Laws of the definitions: what a refused head does, and that data written end within the buffer.
+-- Assumes nothing.
+use mathlib.Core.Path.{_≡_, refl, sym, _∙_}
+use mathlib.Core.Bool.{Bool, true, false, not, cond, false≢true}
+use mathlib.Core.List.{List, []}
+use Prim.Native.Nat.{ℕ, _-_, _≤_}
+use native.Mathlib.Omega.{arith}
+use borrow.Author.Tests.{ltb-false}
+use lib.Dec.{eqb, ltb}
+use lib.ListN.{length}
+use Rattle.codes.specs.declared.FrameCount.{FrameCount}
+use Rattle.codes.specs.declared.FragmentCount.{FragmentCount}
+use Rattle.crc.specs.Crc.{allOnes, registerOver, fcsOf, mcrcOf}
+use Rattle.crc.specs.Judge.{dataOf, lastFour, same, decided, endingOf}
+use Rattle.crc.specs.declared.Ending.{Ending}
+use Rattle.crc.specs.declared.Ending.the-variants.{Done, More, Damaged}
+use Rattle.mframe.specs.Head.{refusal}
+use Rattle.mframe.specs.declared.Kind.{Kind}
+use Rattle.mframe.specs.declared.Kind.the-variants as K
+use Rattle.mframe.specs.declared.Fault.{Fault}
+use Rattle.mframe.specs.declared.Fault.the-variants.{Short, Long, Preamble, Delimiter, Place, Fragment}
+use Rattle.answers.specs.declared.Record.{Record}
+use Rattle.answers.specs.Answers.{says, faulted}
+use Rattle.answers.specs.Records.{fresh}
+use Rattle.assembly.specs.Steps.{Step, unchanged, abandoned, expressOf, heardOf, startOf, endedOf, unexpected, totalOf, continuationOf, stepOf}
+use Rattle.receive.specs.Receive.{byHead, writes, dataIn}
+
+-- a head that is refused
+pub refused-step : (fault : Fault) (m : List ℕ) (r : Record) → byHead (refusal fault) m r ≡ unchanged (faulted fault) r
+refused-step Short m r = refl
+refused-step Long m r = refl
+refused-step Preamble m r = refl
+refused-step (Delimiter bits) m r = refl
+refused-step Place m r = refl
+refused-step Fragment m r = refl
+
+pub refused-writes : (fault : Fault) → writes (faulted fault .number) ≡ false
+refused-writes Short = refl
+refused-writes Long = refl
+refused-writes Preamble = refl
+refused-writes (Delimiter bits) = refl
+refused-writes Place = refl
+refused-writes Fragment = refl
+
+pub refused-body : (fault : Fault) (m : List ℕ) → cond (eqb (byHead (refusal fault) m fresh .said .number) 0) (dataIn (refusal fault) m) [] ≡ []
+refused-body Short m = refl
+refused-body Long m = refl
+refused-body Preamble m = refl
+refused-body (Delimiter bits) m = refl
+refused-body Place m = refl
+refused-body Fragment m = refl
+
+-- what the octets s, after the register r, end with
+abbrev pub Ends : ℕ → List ℕ → Ending → Type 0
+Ends r s (Done n) = n ≡ length s - 4
+Ends r s (More n running) = (n ≡ length s - 4) × (running ≡ registerOver r (dataOf s))
+Ends r s Damaged = Unit {0}
+
+pub ends : (r : ℕ) (s : List ℕ) → Ends r s (endingOf r s)
+unfolding decided
+ends r s = go (same (lastFour s) (fcsOf (registerOver r (dataOf s)))) (same (lastFour s) (mcrcOf (registerOver r (dataOf s))))
+  where
+    go : (t u : Bool) → Ends r s (cond t (Done (length s - 4)) (cond u (More (length s - 4) (registerOver r (dataOf s))) Damaged))
+    go true u = refl
+    go false true = (refl, refl)
+    go false false = tt
+
+-- data that are written end behind their own number, within the longest body
+abbrev pub Within : List ℕ → Step → Type 0
+Within s p = writes (p .said .number) ≡ true → (length s - 4 ≤ p .said .detail) × (p .said .detail ≤ 1518)
+
+module _ (s : List ℕ) (r : Record) where
+  no-data : {A : Type 0} → false ≡ true → A
+  no-data w = absurd (false≢true w)
+
+  express-within : (e : Ending) → Within s (expressOf e r)
+  express-within (Done n) w = no-data w
+  express-within (More n running) w = no-data w
+  express-within Damaged w = no-data w
+
+  heard-within : (e : Ending) (k : ℕ) → writes k ≡ false → Within s (heardOf (says k 0) e r)
+  heard-within (Done n) k q w = no-data w
+  heard-within (More n running) k q w = no-data (sym q ∙ w)
+  heard-within Damaged k q w = no-data w
+
+  start-within : length s ≤ 1522 → (f : FrameCount) (e : Ending) → Ends allOnes s e → Within s (startOf f e r)
+  start-within h f (Done n) q w = (omega arith, omega arith)
+  start-within h f (More n running) q w = (omega arith, omega arith)
+  start-within h f Damaged q w = no-data w
+
+  ended-within : (e : Ending) → totalOf s r ≤ 1518 → Within s (endedOf (totalOf s r) e r)
+  ended-within (Done n) h w = (omega arith, omega arith)
+  ended-within (More n running) h w = (omega arith, omega arith)
+  ended-within Damaged h w = no-data w
+
+  continuation-within : (f : FrameCount) (g : FragmentCount) → Within s (continuationOf f g s r)
+  unfolding continuationOf
+  continuation-within f g = go (not (r .assembling)) (unexpected f g r) (ltb 1518 (totalOf s r)) refl
+    where
+      go : (x y z : Bool) → ltb 1518 (totalOf s r) ≡ z
+          → Within s (cond x (unchanged (says 22 0) r) (cond y (abandoned (says 23 0) r) (cond z (abandoned (says 24 0) r) (endedOf (totalOf s r) (endingOf (r .running) s) r))))
+      go true y z q w = no-data w
+      go false true z q w = no-data w
+      go false false true q w = no-data w
+      go false false false q w = ended-within (endingOf (r .running) s) (ltb-false _ _ q) w
+
+  pub step-within : (kind : Kind) → length s ≤ 1522 → Within s (stepOf kind s r)
+  step-within K.Express h = express-within (endingOf allOnes s)
+  step-within (K.Start f) h = start-within h f (endingOf allOnes s) (ends allOnes s)
+  step-within (K.Continuation f g) h = continuation-within f g
+  step-within K.Verify h = heard-within (endingOf allOnes s) 3 refl
+  step-within K.Respond h = heard-within (endingOf allOnes s) 4 refl

@@ -1,0 +1,127 @@
+-- The promises of this crate, from what is known at each return of the code.
+-- Assumes nothing.
+use mathlib.Core.Path.{_≡_, refl, sym, ap, ap₂, subst, _∙_}
+use mathlib.Core.Bool.{Bool, true, false, not, cond}
+use mathlib.Core.List.{List, []}
+use Prim.Native.Nat.{ℕ, _+_, _-_, _≤_, _<_}
+use native.Mathlib.Nat.{sub-zero}
+use native.Mathlib.Omega.{arith}
+use borrow.Author.Tests.{lt-ltb, le-ltb, ne-eqb}
+use lib.Dec.{eqb}
+use lib.ListN.{length, take, drop, length-drop}
+use lib.Seq.{length-take-le, take-all}
+use Rattle.octets.specs.Laid.{laid}
+use Rattle.crc.specs.Judge.{dataOf}
+use Rattle.mframe.specs.Head.{Reading, known, reading, headOf}
+use Rattle.mframe.specs.declared.Kind.{Kind}
+use Rattle.mframe.specs.declared.Fault.{Fault}
+use Rattle.mframe.specs.declared.Head.{Head}
+use Rattle.mframe.specs.declared.Head.the-variants.{Known, Refused}
+use Rattle.answers.specs.declared.Said.{Said}
+use Rattle.answers.specs.declared.Record.{Record}
+use Rattle.answers.specs.declared.Received.{Received}
+use Rattle.answers.specs.Answers.{says, faulted, said}
+use Rattle.answers.specs.Records.{fresh, inRange}
+use Rattle.assembly.specs.Steps.{Step, told, unchanged, stepOf}
+use Rattle.receive.specs.Receive.{byHead, receivedOf, ending, writes, leftOf, dataIn, bufferOf, Answered, Taken, bodyOf}
+use Rattle.receive.proofs.Heads.{Good, head-good}
+use Rattle.receive.proofs.Laws.{refused-step, refused-writes, refused-body, step-within}
+
+-- keep
+pub kept : (octets buffer : List ℕ) (end : ℕ) → laid buffer (end - (length octets - 4)) (take (length octets - 4 - 0) octets) ≡ ending end (dataOf octets) buffer
+kept octets buffer end =
+    let n : length (dataOf octets) ≡ length octets - 4 = length-take-le (length octets - 4) octets (omega arith) in
+    ap₂ (λ (k : ℕ) (l : List ℕ). laid buffer (end - k) l) (sym n) (ap (λ (k : ℕ). take k octets) (sub-zero (length octets - 4)))
+
+-- take
+module _ (kind : Kind) (octets : List ℕ) (r : Record) (b : List ℕ) (got : Received) {s : Said} {flag : Bool}
+    (decided : told got ≡ stepOf kind octets r) (tells : s ≡ said (got .answer)) (tested : flag ≡ writes (s .number)) where
+  is : s ≡ stepOf kind octets r .said
+  is = tells ∙ ap (λ (t : Step). t .said) decided
+
+  pub wrote : flag ≡ true → {b′ : List ℕ} → b′ ≡ ending (s .detail) (dataOf octets) b → Taken kind octets r b got b′
+  wrote q e = record {
+    step = decided;
+    left = e ∙ ap (λ (t : Bool). cond t (ending (s .detail) (dataOf octets) b) b) (sym (sym tested ∙ q)) ∙ ap (λ (t : Said). leftOf t (dataOf octets) b) is;
+  }
+
+  pub idle : flag ≡ false → Taken kind octets r b got b
+  idle q = record {
+    step = decided;
+    left = ap (λ (t : Bool). cond t (ending (s .detail) (dataOf octets) b) b) (sym (sym tested ∙ q)) ∙ ap (λ (t : Said). leftOf t (dataOf octets) b) is;
+  }
+
+  pub room : flag ≡ true → length octets ≤ 1522 → (length octets - 4 ≤ s .detail) × (s .detail ≤ 1518)
+  room q h = rw is (step-within octets r kind h (ap (λ (t : Said). writes (t .number)) (sym is) ∙ sym tested ∙ q))
+
+-- a head that is known
+module _ (m : List ℕ) {h : Head} {kind : Kind} {place : ℕ} (read : reading h ≡ headOf m) (e : h ≡ Known kind place) where
+  pub knows : headOf m ≡ known kind place
+  knows = sym read ∙ ap reading e
+
+  pub spacious : (place + 64 ≤ length m) × (length m ≤ place + 1522)
+  spacious = let g = subst (λ (x : Reading). Good (length m) x) knows (head-good m) in (g .0, g .1 .0)
+
+  -- the part from where the data begin
+  pub part : take (length m - place) (drop place m) ≡ drop place m
+  part = take-all (length m - place) (drop place m) (let g : length (drop place m) ≤ length m - place = omega (arith, length-drop place m) in g)
+
+  pub roomy : (64 ≤ length (take (length m - place) (drop place m))) × (length (take (length m - place) (drop place m)) ≤ 1522)
+  roomy = let w = spacious in rw part (simp length-drop (omega arith, omega arith))
+
+-- receive
+module _ (m : List ℕ) (r : Record) (b : List ℕ) {got : Received} where
+  pub short : length b < 1518 → told got ≡ unchanged (says 10 0) r → Answered m r b got b
+  unfolding receivedOf bufferOf
+  short h e = record { step = e ∙ sym (simp (lt-ltb _ _ h)); octets = simp (lt-ltb _ _ h) }
+
+  module _ {flag : Bool} (h : 1518 ≤ length b) (tested : flag ≡ inRange r) where
+    pub outside : not flag ≡ true → told got ≡ unchanged (says 11 0) r → Answered m r b got b
+    unfolding receivedOf bufferOf
+    outside q e =
+        let t = ap not (sym tested) ∙ q in
+        record { step = e ∙ sym (simp (le-ltb _ _ h, t)); octets = simp (le-ltb _ _ h, t) }
+
+    module _ (q : not flag ≡ false) {head : Head} (read : reading head ≡ headOf m) where
+      pub answered : {kind : Kind} {place : ℕ} {b′ : List ℕ} → head ≡ Known kind place → Taken kind (take (length m - place) (drop place m)) r b got b′
+          → Answered m r b got b′
+      unfolding receivedOf bufferOf
+      answered {kind} {place} e t =
+          let in-range = ap not (sym tested) ∙ q in
+          record {
+            step = t .step ∙ ap (λ (l : List ℕ). stepOf kind l r) (part m read e) ∙ sym (simp (le-ltb _ _ h, in-range, knows m read e));
+            octets = t .left ∙ ap (λ (l : List ℕ). leftOf (stepOf kind l r .said) (dataOf l) b) (part m read e)
+                ∙ sym (simp (le-ltb _ _ h, in-range, knows m read e));
+          }
+
+      pub faulty : {fault : Fault} → head ≡ Refused fault → told got ≡ unchanged (faulted fault) r → Answered m r b got b
+      unfolding receivedOf bufferOf
+      faulty {fault} e t =
+          let in-range = ap not (sym tested) ∙ q in
+          let f = sym read ∙ ap reading e in
+          record {
+            step = t ∙ sym (simp (le-ltb _ _ h, in-range, f, refused-step fault m r));
+            octets = sym (simp (le-ltb _ _ h, in-range, f, refused-step fault m r, refused-writes fault));
+          }
+
+-- express_body
+body-by : (m : List ℕ) → bodyOf m ≡ cond (eqb (byHead (headOf m) m fresh .said .number) 0) (dataIn (headOf m) m) []
+unfolding bodyOf receivedOf inRange
+body-by m = refl
+
+pub no-body : (m : List ℕ) {h : Head} {fault : Fault} → reading h ≡ headOf m → h ≡ Refused fault → [] ≡ bodyOf m
+no-body m {fault = fault} read e = sym (body-by m ∙ rw (← read, e) (refused-body fault m))
+
+module _ (m : List ℕ) {h : Head} {kind : Kind} {place : ℕ} (read : reading h ≡ headOf m) (e : h ≡ Known kind place) (got : Received) {s : Said}
+    (decided : told got ≡ stepOf kind (take (length m - place) (drop place m)) fresh) (tells : s ≡ said (got .answer)) where
+  number : stepOf kind (drop place m) fresh .said .number ≡ s .number
+  number = sym (ap (λ (t : Said). t .number) tells ∙ ap (λ (t : Step). t .said .number) (decided ∙ ap (λ (l : List ℕ). stepOf kind l fresh) (part m read e)))
+
+  data-part : take (length m - 4 - place) (drop place m) ≡ dataOf (drop place m)
+  data-part = ap (λ (k : ℕ). take k (drop place m)) (let g : length m - 4 - place ≡ length (drop place m) - 4 = omega (arith, length-drop place m) in g)
+
+  pub body : s .number ≡ 0 → take (length m - 4 - place) (drop place m) ≡ bodyOf m
+  body q = data-part ∙ sym (body-by m ∙ rw (knows m read e, number, q) refl)
+
+  pub other : (s .number ≡ 0 → ⊥) → [] ≡ bodyOf m
+  other q = sym (body-by m ∙ rw (knows m read e, number, ne-eqb (s .number) 0 q) refl)

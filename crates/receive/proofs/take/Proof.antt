@@ -1,0 +1,45 @@
+-- `receive::take` meets its contract.
+-- Assumes nothing.
+use native.Mathlib.Omega.{arith}
+use Rattle.receive.proofs.Promise.{wrote, idle, room}
+use borrow.Author.Needs.{needs}
+use Rattle.receive.proofs.take.Statement.{statement}
+use Rattle.receive.proofs.take.Tie as tie
+
+decide-requires : tie.Need-decide-requires
+decide-requires c κs = search needs
+
+said-requires : tie.Need-said-requires
+said-requires c κs = search needs
+
+writes-requires : tie.Need-writes-requires
+writes-requires c κs = search needs
+
+keep-requires : tie.Need-keep-requires
+keep-requires c κs =
+    let a = c .before .before .before .before .before .before .before .args in
+    let w = room (a .kind) (a .octets .now) (a .«record») (a .buffer .now) (c .before .before .before .before .decide .result) (c .before .before .before .before .decide .ensures) (c .before .before .before .said .ensures) (c .before .before .writes .ensures) (c .before .if1 .taken) (omega arith) in
+    (omega arith, (omega arith, omega arith))
+
+same-length : tie.Need-same-length
+same-length c = search needs
+
+returns : tie.Need-returns
+returns c =
+    wrote _ _ _ _ _ (c .before .before .before .before .before .before .before .decide .ensures) (c .before .before .before .before .before .before .said .ensures) (c .before .before .before .before .before .writes .ensures) (c .before .before .before .before .if1 .taken) (c .before .before .keep .ensures)
+
+returns-2 : tie.Need-returns-2
+returns-2 c =
+    idle _ _ _ _ _ (c .before .before .before .decide .ensures) (c .before .before .said .ensures) (c .before .writes .ensures) (c .if1 .left)
+
+pub take-spec : {M : Type 1} → statement M
+take-spec =
+    tie.close
+    (tie.spec
+    decide-requires
+    said-requires
+    writes-requires
+    keep-requires
+    same-length
+    returns
+    returns-2)

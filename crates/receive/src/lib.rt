@@ -1,0 +1,84 @@
+// The receiving side (document 01, "Receiving"): one mFrame to an answer, the record to keep and the assembly buffer; and an express body.
+use answers::Received;
+use answers::Record;
+use answers::Refusal;
+use mframe::Head;
+use mframe::Kind;
+ghost use mathlib.Core.Path.{_≡_};
+ghost use Prim.Native.Nat.{_+_, _≤_};
+ghost use lib.ListN.{length};
+ghost use Rattle.crc.specs.Judge.{dataOf};
+ghost use Rattle.receive.specs.Receive.{writes, ending, Taken, Answered, bodyOf};
+
+// The least buffer.
+const ROOM: usize = 1518;
+
+// The octets of a check.
+const CHECK: usize = 4;
+
+// Whether an answer has the data written.
+fn writes(number: u32) -> bool
+    ensures { λ r. ⌜ r ≡ writes number ⌝ }
+{
+    match number {
+        1 => true,
+        2 => true,
+        _ => false,
+    }
+}
+
+// The data of an mFrame's octets, laid so that they end at a place.
+fn keep(octets: &[u8], end: usize, buffer: &mut [u8])
+    requires { ⌜ (4 ≤ length (now octets)) × ((length (now octets) ≤ 4 + end) × (end ≤ length (now buffer))) ⌝ }
+    ensures { λ _. ⌜ now (buffer .exit) ≡ ending end (dataOf (now (octets .entry))) (now (buffer .entry)) ⌝ }
+{
+    let data = octets.len() - CHECK;
+    octets::copy_into(&octets[0..data], buffer, end - data)
+}
+
+// An mFrame of known kind: its data and check octets.
+fn take(kind: Kind, octets: &[u8], record: Record, buffer: &mut [u8]) -> Received
+    requires { ⌜ (4 ≤ length (now octets)) × ((length (now octets) ≤ 1522) × (1518 ≤ length (now buffer))) ⌝ }
+    ensures { λ r. ⌜ Taken kind (now (octets .entry)) «record» (now (buffer .entry)) r (now (buffer .exit)) ⌝ }
+{
+    let got = assembly::decide(kind, octets, record);
+    let answer = got.answer;
+    let said = answer.said();
+    if writes(said.number) {
+        keep(octets, said.detail, buffer);
+    }
+    got
+}
+
+// One mFrame, as a slice from its first preamble octet to its last check octet.
+pub fn receive(mframe: &[u8], record: Record, buffer: &mut [u8]) -> Received
+    ensures { λ r. ⌜ Answered (now (mframe .entry)) «record» (now (buffer .entry)) r (now (buffer .exit)) ⌝ }
+{
+    if buffer.len() < ROOM {
+        return assembly::refuse(Refusal::Buffer, record);
+    }
+    if !record.in_range() {
+        return assembly::refuse(Refusal::Record, record);
+    }
+    match mframe::head_of(mframe) {
+        Head::Known(kind, place) => take(kind, &mframe[place..], record, buffer),
+        Head::Refused(fault) => assembly::refuse(Refusal::Head(fault), record),
+    }
+}
+
+// The body of an express mFrame, as the caller's own octets; of any other the empty part at its front.
+pub fn express_body(mframe: &[u8]) -> &[u8]
+    ensures { λ r. ⌜ now r ≡ bodyOf (now (mframe .entry)) ⌝ }
+{
+    let Head::Known(kind, place) = mframe::head_of(mframe) else {
+        return &mframe[0..0];
+    };
+    let got = assembly::decide(kind, &mframe[place..], Record::FRESH);
+    let answer = got.answer;
+    let said = answer.said();
+    if said.number == 0 {
+        let end = mframe.len() - CHECK;
+        return &mframe[place..end];
+    }
+    &mframe[0..0]
+}

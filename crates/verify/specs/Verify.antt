@@ -1,0 +1,103 @@
+-- Link verification as document 01, "Verification", lays it down: the record's ranges, the table of events, the refusal.
+-- Assumes nothing.
+use mathlib.Core.Bool.{Bool, true, false, cond, _&&_}
+use Prim.Native.Nat.{ℕ, _+_, _-_}
+use lib.Dec.{leb, ltb, eqb}
+use Rattle.verify.specs.declared.Phase.{Phase}
+use Rattle.verify.specs.declared.Phase.the-variants.{Off, Trying, Verified, Failed}
+use Rattle.verify.specs.declared.Record.{Record}
+use Rattle.verify.specs.declared.Event.{Event}
+use Rattle.verify.specs.declared.Event.the-variants.{Enable, Disable, LinkFailed, ResponseHeard, VerifyHeard, ResponseSent, Millisecond}
+use Rattle.verify.specs.declared.Answer.{Answer}
+use Rattle.verify.specs.declared.Answer.the-variants.{Taken, Refused}
+use Rattle.verify.specs.declared.Stepped.{Stepped}
+
+-- "one wait of 10 ms"
+abbrev pub wait : ℕ
+wait = 10
+
+-- "attempt 1 to 3"
+abbrev pub attempts : ℕ
+attempts = 3
+
+-- "Fresh is off, nothing owed"
+abbrev pub fresh : Record
+fresh = record { phase = Off; attempt = 0; left = 0; owed = false }
+
+abbrev pub isOff : Phase → Bool
+isOff Off = true
+isOff Trying = false
+isOff Verified = false
+isOff Failed = false
+
+abbrev pub isTrying : Phase → Bool
+isTrying Off = false
+isTrying Trying = true
+isTrying Verified = false
+isTrying Failed = false
+
+-- whether attempt and milliseconds left are at least the least and at most their most
+unfoldable pub counted : ℕ → ℕ → ℕ → Record → Bool
+counted least k n r = leb least (r .attempt) && (leb (r .attempt) k && (leb least (r .left) && leb (r .left) n))
+
+-- "trying (attempt 1 to 3, milliseconds left 1 to 10)"; "Outside trying, attempt and milliseconds left are 0"
+abbrev pub inRange : Record → Bool
+inRange r = cond (isTrying (r .phase)) (counted 1 attempts wait r) (counted 0 0 0 r)
+
+-- an answer in the paper's terms: 0 and whether a V is ordered, or the number of the refusal
+pub record Said : Type 0 where
+  pub number : ℕ
+  pub ordered : Bool
+
+abbrev pub said : Answer → Said
+said (Taken v) = record { number = 0; ordered = v }
+said Refused = record { number = 40; ordered = false }
+
+-- what comes of an event: the answer in the paper's terms, and the record after it
+pub record Told : Type 0 where
+  pub said : Said
+  pub after : Record
+
+abbrev pub told : Stepped → Told
+told s = record { said = said (s .answer); after = s .after }
+
+-- an event that is taken, with a V ordered or not
+abbrev pub takes : Record → Bool → Told
+takes r v = record { said = record { number = 0; ordered = v }; after = r }
+
+-- the record in a phase other than trying
+abbrev pub rests : Phase → Record → Record
+rests p r = record { phase = p; attempt = 0; left = 0; owed = r .owed }
+
+-- the record in trying, at an attempt with so many milliseconds left
+abbrev pub tries : ℕ → ℕ → Record → Record
+tries k n r = record { phase = Trying; attempt = k; left = n; owed = r .owed }
+
+-- the record with a response owed or not
+abbrev pub owing : Bool → Record → Record
+owing b r = record { phase = r .phase; attempt = r .attempt; left = r .left; owed = b }
+
+-- "at 0, attempts 1 and 2 order V and start the next with 10, attempt 3 becomes failed"
+unfoldable pub atZero : Record → Told
+atZero r = cond (ltb (r .attempt) attempts) (takes (tries (r .attempt + 1) wait r) true) (takes (rests Failed r) false)
+
+-- "one less left; at 0, .."
+unfoldable pub oneLess : Record → Told
+oneLess r = cond (eqb (r .left - 1) 0) (atZero r) (takes (tries (r .attempt) (r .left - 1) r) false)
+
+-- the table of events, a row a clause
+abbrev pub effect : Event → Record → Told
+effect Enable r = cond (isOff (r .phase)) (takes (tries 1 wait r) true) (takes r false)
+effect Disable r = takes (rests Off r) false
+effect LinkFailed r = takes (owing false (rests Off r)) false
+effect ResponseHeard r = cond (isTrying (r .phase)) (takes (rests Verified r) false) (takes r false)
+effect VerifyHeard r = takes (owing true r) false
+effect ResponseSent r = takes (owing false r) false
+effect Millisecond r = cond (isTrying (r .phase)) (oneLess r) (takes r false)
+
+-- "Any other values are refused with 40 and handed back"
+abbrev pub refuses : Record → Told
+refuses r = record { said = record { number = 40; ordered = false }; after = r }
+
+unfoldable pub stepOf : Record → Event → Told
+stepOf r e = cond (inRange r) (effect e r) (refuses r)

@@ -1,0 +1,15 @@
+/* The kit's compiler comes without headers; these types are the compiler's own. */
+#ifndef BOARD_STDINT_H
+#define BOARD_STDINT_H
+typedef __UINT8_TYPE__ uint8_t;
+typedef __UINT16_TYPE__ uint16_t;
+typedef __UINT32_TYPE__ uint32_t;
+typedef __UINT64_TYPE__ uint64_t;
+typedef __UINTPTR_TYPE__ uintptr_t;
+#define UINT32_MAX __UINT32_MAX__
+#define UINT64_MAX __UINT64_MAX__
+#define UINT64_C(x) __UINT64_C(x)
+#ifndef __UINT64_C
+#define __UINT64_C(x) x##ULL
+#endif
+#endif

@@ -1,0 +1,71 @@
+/* The calls of document 01 a second time, in plain C. It shares no code with the port: tests/c/compare.c holds the port
+ * against it octet for octet, and the benchmarks measure the port beside it. It is written as one would write it for a
+ * small board: a table for the check octets, memcpy, records that the caller keeps, no allocation. */
+#ifndef PLAIN_H
+#define PLAIN_H
+
+#include <stdbool.h>
+#include <stddef.h>
+#include <stdint.h>
+
+/* The sending record. Length, sent and fragment are those of a frame in progress, all 0 where there is none. */
+struct plain_sender {
+	uint32_t active, hold, extra, next, length, sent, fragment;
+};
+
+/* What a sending call that is not refused wrote. */
+struct plain_written {
+	uint32_t length, done;
+};
+
+/* The receiving record, its four counters last. */
+struct plain_receiver {
+	uint32_t assembling, frame, fragment, kept, crc;
+	uint32_t assembly_errors, delimiter_errors, assembled, fragments;
+};
+
+enum plain_phase { PLAIN_OFF, PLAIN_TRYING, PLAIN_VERIFIED, PLAIN_FAILED };
+
+struct plain_link {
+	uint32_t phase, attempt, left, owed;
+};
+
+enum plain_event {
+	PLAIN_ENABLE,
+	PLAIN_DISABLE,
+	PLAIN_LINK_FAILED,
+	PLAIN_R_HEARD,
+	PLAIN_V_HEARD,
+	PLAIN_RESPONSE_SENT,
+	PLAIN_MILLISECOND
+};
+
+/* Where the content of a record of a trace stands, and where the next record begins. */
+struct plain_content {
+	size_t start, length, next;
+};
+
+/* The answer of plain_trace where no octet is left. */
+#define PLAIN_TRACE_END 1
+
+/* Sending: 0, or the number of the refusal. */
+int plain_express(const uint8_t *body, size_t length, uint8_t *out, size_t room, struct plain_written *written);
+int plain_verify(uint8_t *out, size_t room, struct plain_written *written);
+int plain_respond(uint8_t *out, size_t room, struct plain_written *written);
+int plain_preemptable(struct plain_sender *sender, const uint8_t *body, size_t length, bool asked, uint64_t t,
+		      uint8_t *out, size_t room, struct plain_written *written);
+
+/* Receiving: the answer's number; the detail is the body length for 0 and 1, the octets kept for 2, the bits for 15, else 0. */
+int plain_receive(struct plain_receiver *receiver, const uint8_t *mframe, size_t n, uint8_t *buffer, size_t room,
+		  uint32_t *detail);
+
+/* The length of the express body, and where it starts; both 0 where there is none. */
+size_t plain_express_body(const uint8_t *mframe, size_t n, size_t *start);
+
+/* Verification: 0 and whether a V is ordered, or 40. */
+int plain_event(struct plain_link *link, uint32_t event, bool *ordered);
+
+/* The record of a trace at a place: 0, PLAIN_TRACE_END, or the number of the refusal. */
+int plain_trace(const uint8_t *trace, size_t n, size_t at, struct plain_content *content);
+
+#endif
