@@ -1,25 +1,18 @@
-# The seat port. `make test` is the gate; .ci/run calls it. Needed: the Rattle kit (rt), make and python3.
+# The seat port. `make list` is the newcomer's first command, `make test` the gate; .ci/run calls it.
+# Needed: the Rattle kit (rt), make and python3.
 MAKERS := $(sort $(wildcard tests/reference/vectors_*.py)) tests/reference/traces.py
 
-.PHONY: test format reference stored vectors prove
+.PHONY: list test vectors prove
 
-# Everything, from nothing. rt ci comes last: its last line is the verdict's.
-test: format reference stored
-	@rt ci
+# Lists a trace: make list, or make list TRACE=file. Proves and builds what is missing.
+list:
+	@scripts/list $(TRACE)
 
-# Sources, definitions and proofs are in the kit's layout.
-format:
-	@rt fmt --check
+# Everything, from nothing.
+test:
+	@scripts/gate
 
-# The reference's own tests.
-reference:
-	@python3 -m unittest discover -q -s tests/reference
-
-# The stored vectors are what the reference makes.
-stored:
-	@for maker in $(MAKERS); do python3 $$maker --check || exit 1; done
-
-# Makes the stored vectors anew.
+# Makes the stored vectors and traces anew.
 vectors:
 	@for maker in $(MAKERS); do python3 $$maker || exit 1; done
 

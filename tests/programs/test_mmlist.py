@@ -1,0 +1,85 @@
+"""mmlist as a program: however the trace comes, whatever happens to its input and output.
+
+The program must be built (rt check mmlist). What it lists for stored traces is held to the
+reference by rt; here it is fed by pipes in pieces, with more than memory would hold, and with
+an input or an output that fails.
+"""
+
+import os
+import subprocess
+import threading
+import unittest
+from pathlib import Path
+
+ROOT = Path(__file__).resolve().parents[2]
+COMMAND = [str(ROOT / "scripts" / "run-program"), "mmlist"]
+
+
+def stored(crate):
+    """The trace and the listing stored for a crate."""
+    folder = ROOT / "crates" / crate
+    return (folder / "stdin").read_bytes(), (folder / "stdout").read_bytes()
+
+
+def fed(pieces):
+    """The listing of a trace that comes in these pieces, and the process's most memory in KiB."""
+    process = subprocess.Popen(COMMAND, stdin=subprocess.PIPE, stdout=subprocess.PIPE)
+    listing = []
+    reader = threading.Thread(target=lambda: listing.append(process.stdout.read()))
+    reader.start()
+    for piece in pieces:
+        process.stdin.write(piece)
+        process.stdin.flush()
+    process.stdin.close()
+    reader.join()
+    process.stdout.close()
+    _, status, usage = os.wait4(process.pid, 0)
+    process.returncode = os.waitstatus_to_exitcode(status)
+    return listing[0], usage.ru_maxrss
+
+
+class Pieces(unittest.TestCase):
+    def test_single_octets(self):
+        trace, listing = stored("mmlist")
+        self.assertEqual(fed(trace[place:place + 1] for place in range(len(trace)))[0], listing)
+
+    def test_pieces_that_cut_headers_and_contents(self):
+        trace, listing = stored("list_answers")
+        for size in (3, 5, 1603, 1605, 65_535, 65_537):
+            with self.subTest(size=size):
+                pieces = [trace[place:place + size] for place in range(0, len(trace), size)]
+                self.assertEqual(fed(pieces)[0], listing)
+
+
+class Length(unittest.TestCase):
+    def test_memory_does_not_grow_with_the_trace(self):
+        trace, _ = stored("list_long")
+        records = 20_000
+        _, small = fed([trace])
+        listing, large = fed(trace for _ in range(70))
+        self.assertGreater(70 * len(trace), 100_000_000)
+        self.assertEqual(listing.count(b"\n"), 70 * records + 2)
+        self.assertLess(large, small + 1024)
+
+
+class Failures(unittest.TestCase):
+    def run_with(self, **streams):
+        return subprocess.run(COMMAND, stderr=subprocess.PIPE, **streams)
+
+    def test_an_input_that_cannot_be_read(self):
+        folder = os.open(ROOT, os.O_RDONLY)
+        try:
+            done = self.run_with(stdin=folder, stdout=subprocess.PIPE)
+        finally:
+            os.close(folder)
+        self.assertEqual(done.stderr, b"mmlist: the trace could not be read.\n")
+
+    def test_an_output_that_cannot_be_written(self):
+        trace, _ = stored("mmlist")
+        with open("/dev/full", "wb") as full:
+            done = self.run_with(input=trace, stdout=full)
+        self.assertEqual(done.stderr, b"mmlist: the listing could not be written.\n")
+
+
+if __name__ == "__main__":
+    unittest.main()
