@@ -56,3 +56,8 @@ fn hex_octet(x: u8) {
 pub fn flag(x: bool) {
     small(x as u8);
 }
+
+// A number at the front of a line.
+pub fn first(n: u64) {
+    io::print_decimal(STDOUT_FILENO, n);
+}

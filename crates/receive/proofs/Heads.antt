@@ -55,10 +55,19 @@ fragment-under : (x : ℕ) → FragmentUnder (fragmentOf x)
 unfolding fragmentOf
 fragment-under x = meant FragmentUnder x _ _ _ (omega arith, (omega arith, (omega arith, (omega arith, tt)))) tt
 
+-- the numbers of a head's refusal
+pub data Number : ℕ → Type 0 where
+  n12 : Number 12
+  n13 : Number 13
+  n14 : Number 14
+  n15 : Number 15
+  n16 : Number 16
+  n17 : Number 17
+
 -- a head of n octets
 abbrev pub Good : ℕ → Reading → Type 0
 Good n (known kind place) = (place + 64 ≤ n) × ((n ≤ place + 1522) × Counted kind)
-Good n (refused number detail) = (12 ≤ number) × (number ≤ 17)
+Good n (refused number detail) = Number number
 
 module _ (n : ℕ) (low : 72 ≤ n) (high : n ≤ 1530) where
   fits : (8 + 64 ≤ n) × (n ≤ 8 + 1522)
@@ -67,19 +76,19 @@ module _ (n : ℕ) (low : 72 ≤ n) (high : n ≤ 1530) where
   good-seven : (d : Delimiter) → FrameUnder d → Good n (sevenOf d)
   good-seven D.Express u = (fits .0, (fits .1, tt))
   good-seven (D.Start f) u = (fits .0, (fits .1, u))
-  good-seven (D.Continuation f) u = (omega arith, omega arith)
+  good-seven (D.Continuation f) u = n16
   good-seven D.Verify u = (fits .0, (fits .1, tt))
   good-seven D.Respond u = (fits .0, (fits .1, tt))
-  good-seven (D.Unknown bits) u = (omega arith, omega arith)
+  good-seven (D.Unknown bits) u = n15
 
   good-six : (d : Delimiter) (g : Fragment) → FrameUnder d → FragmentUnder g → Good n (sixOf d g)
-  good-six D.Express g u v = (omega arith, omega arith)
-  good-six (D.Start f) g u v = (omega arith, omega arith)
+  good-six D.Express g u v = n16
+  good-six (D.Start f) g u v = n16
   good-six (D.Continuation f) (F.Known k) u v = (fits .0, (fits .1, (u, v)))
-  good-six (D.Continuation f) F.Unknown u v = (omega arith, omega arith)
-  good-six D.Verify g u v = (omega arith, omega arith)
-  good-six D.Respond g u v = (omega arith, omega arith)
-  good-six (D.Unknown bits) g u v = (omega arith, omega arith)
+  good-six (D.Continuation f) F.Unknown u v = n17
+  good-six D.Verify g u v = n16
+  good-six D.Respond g u v = n16
+  good-six (D.Unknown bits) g u v = n15
 
 pub head-good : (m : List ℕ) → Good (length m) (headOf m)
 unfolding headOf
@@ -87,8 +96,8 @@ head-good m = go (ltb (length m) 72) (ltb 1530 (length m)) refl refl
   where
     go : (low high : Bool) → ltb (length m) 72 ≡ low → ltb 1530 (length m) ≡ high
         → Good (length m) (cond low (refused 12 0) (cond high (refused 13 0) (cond (all55 (take 6 m)) (placedOf m) (refused 14 0))))
-    go true high p q = (omega arith, omega arith)
-    go false true p q = (omega arith, omega arith)
+    go true high p q = n12
+    go false true p q = n13
     go false false p q =
         let low = ltb-false _ _ p in
         let high = ltb-false _ _ q in
@@ -98,4 +107,4 @@ head-good m = go (ltb (length m) 72) (ltb 1530 (length m)) refl refl
         (either (Good (length m)) (eqb x 0x55) (sevenOf (delimiterOf y)) (sixOf (delimiterOf x) (fragmentOf y))
         (good-seven (length m) low high (delimiterOf y) (frame-under y))
         (good-six (length m) low high (delimiterOf x) (fragmentOf y) (frame-under x) (fragment-under y)))
-        (omega arith, omega arith)
+        n14

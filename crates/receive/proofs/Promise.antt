@@ -23,12 +23,12 @@ use Rattle.answers.specs.declared.Received.{Received}
 use Rattle.answers.specs.Answers.{says, faulted, said}
 use Rattle.answers.specs.Records.{fresh, inRange}
 use Rattle.assembly.specs.Steps.{Step, told, unchanged, stepOf}
-use Rattle.receive.specs.Receive.{byHead, receivedOf, ending, writes, leftOf, dataIn, bufferOf, Answered, Taken, bodyOf}
+use Rattle.receive.specs.Receive.{byHead, receivedOf, upTo, writes, leftOf, dataIn, bufferOf, Answered, Taken, bodyOf}
 use Rattle.receive.proofs.Heads.{Good, head-good}
 use Rattle.receive.proofs.Laws.{refused-step, refused-writes, refused-body, step-within}
 
 -- keep
-pub kept : (octets buffer : List ℕ) (end : ℕ) → laid buffer (end - (length octets - 4)) (take (length octets - 4 - 0) octets) ≡ ending end (dataOf octets) buffer
+pub kept : (octets buffer : List ℕ) (end : ℕ) → laid buffer (end - (length octets - 4)) (take (length octets - 4 - 0) octets) ≡ upTo end (dataOf octets) buffer
 kept octets buffer end =
     let n : length (dataOf octets) ≡ length octets - 4 = length-take-le (length octets - 4) octets (omega arith) in
     ap₂ (λ (k : ℕ) (l : List ℕ). laid buffer (end - k) l) (sym n) (ap (λ (k : ℕ). take k octets) (sub-zero (length octets - 4)))
@@ -39,17 +39,15 @@ module _ (kind : Kind) (octets : List ℕ) (r : Record) (b : List ℕ) (got : Re
   is : s ≡ stepOf kind octets r .said
   is = tells ∙ ap (λ (t : Step). t .said) decided
 
-  pub wrote : flag ≡ true → {b′ : List ℕ} → b′ ≡ ending (s .detail) (dataOf octets) b → Taken kind octets r b got b′
-  wrote q e = record {
-    step = decided;
-    left = e ∙ ap (λ (t : Bool). cond t (ending (s .detail) (dataOf octets) b) b) (sym (sym tested ∙ q)) ∙ ap (λ (t : Said). leftOf t (dataOf octets) b) is;
-  }
+  left-is : (t : Bool) → flag ≡ t → cond t (upTo (s .detail) (dataOf octets) b) b ≡ leftOf (stepOf kind octets r .said) (dataOf octets) b
+  left-is t q =
+      ap (λ (x : Bool). cond x (upTo (s .detail) (dataOf octets) b) b) (sym q ∙ tested) ∙ ap (λ (x : Said). leftOf x (dataOf octets) b) is
+
+  pub wrote : flag ≡ true → {b′ : List ℕ} → b′ ≡ upTo (s .detail) (dataOf octets) b → Taken kind octets r b got b′
+  wrote q e = record { step = decided; left = e ∙ left-is true q }
 
   pub idle : flag ≡ false → Taken kind octets r b got b
-  idle q = record {
-    step = decided;
-    left = ap (λ (t : Bool). cond t (ending (s .detail) (dataOf octets) b) b) (sym (sym tested ∙ q)) ∙ ap (λ (t : Said). leftOf t (dataOf octets) b) is;
-  }
+  idle q = record { step = decided; left = left-is false q }
 
   pub room : flag ≡ true → length octets ≤ 1522 → (length octets - 4 ≤ s .detail) × (s .detail ≤ 1518)
   room q h = rw is (step-within octets r kind h (ap (λ (t : Said). writes (t .number)) (sym is) ∙ sym tested ∙ q))

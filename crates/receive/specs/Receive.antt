@@ -28,15 +28,15 @@ receivedOf m r room =
     cond (ltb room 1518) (unchanged (says 10 0) r) (cond (not (inRange r)) (unchanged (says 11 0) r) (byHead (headOf m) m r))
 
 -- octets laid into the buffer so that they end at a place
-abbrev pub ending : ℕ → List ℕ → List ℕ → List ℕ
-ending end octets buffer = laid buffer (end - length octets) octets
+abbrev pub upTo : ℕ → List ℕ → List ℕ → List ℕ
+upTo end octets buffer = laid buffer (end - length octets) octets
 
 -- 1 and 2 append the data, which end where the octets kept end; "drops write nothing to the buffer", nor does any other answer
 abbrev pub writes : ℕ → Bool
 writes number = eqb number 1 || eqb number 2
 
 abbrev pub leftOf : Said → List ℕ → List ℕ → List ℕ
-leftOf s octets buffer = cond (writes (s .number)) (ending (s .detail) octets buffer) buffer
+leftOf s octets buffer = cond (writes (s .number)) (upTo (s .detail) octets buffer) buffer
 
 -- the data of an mFrame: from where its head says that they begin up to the last four octets
 abbrev pub dataIn : Reading → List ℕ → List ℕ

@@ -8,7 +8,7 @@ ghost use mathlib.Core.Path.{_≡_};
 ghost use Prim.Native.Nat.{_+_, _≤_};
 ghost use lib.ListN.{length};
 ghost use Rattle.crc.specs.Judge.{dataOf};
-ghost use Rattle.receive.specs.Receive.{writes, ending, Taken, Answered, bodyOf};
+ghost use Rattle.receive.specs.Receive.{writes, upTo, Taken, Answered, bodyOf};
 
 // The least buffer.
 const ROOM: usize = 1518;
@@ -30,7 +30,7 @@ fn writes(number: u32) -> bool
 // The data of an mFrame's octets, laid so that they end at a place.
 fn keep(octets: &[u8], end: usize, buffer: &mut [u8])
     requires { ⌜ (4 ≤ length (now octets)) × ((length (now octets) ≤ 4 + end) × (end ≤ length (now buffer))) ⌝ }
-    ensures { λ _. ⌜ now (buffer .exit) ≡ ending end (dataOf (now (octets .entry))) (now (buffer .entry)) ⌝ }
+    ensures { λ _. ⌜ now (buffer .exit) ≡ upTo end (dataOf (now (octets .entry))) (now (buffer .entry)) ⌝ }
 {
     let data = octets.len() - CHECK;
     octets::copy_into(&octets[0..data], buffer, end - data)

@@ -36,9 +36,9 @@ abandoned-requires c κs = search needs
 
 returns-2 : tie.Need-returns-2
 returns-2 c =
+    let a = c .before .before .before .before .before in
     c .abandoned .ensures
-    ∙ miscounted _ _ _ _ (c .before .before .before .before .before .before .before .assembly-of .ensures) (c .before .before .before .before .before .frame .given .1)
-    (c .before .before .before .counts-of .ensures) (c .before .enum-told3 .given .1)
+    ∙ miscounted _ _ _ _ (a .before .before .assembly-of .ensures) (a .frame .given .1) (c .before .before .before .counts-of .ensures) (c .before .enum-told3 .given .1)
 
 room-for-requires : tie.Need-room-for-requires
 room-for-requires c κs = search needs
@@ -54,10 +54,11 @@ abandoned-requires-2 c κs = search needs
 
 returns-3 : tie.Need-returns-3
 returns-3 c =
+    let k = c .before .before .before .before in
+    let a = k .before .before .before .before in
     c .abandoned2 .ensures
-    ∙ too-long _ _ _ _ (c .before .before .before .before .before .before .before .before .before .before .assembly-of .ensures) (c .before .before .before .before .before .before .before .before .frame .given .1)
-    (c .before .before .before .before .before .before .counts-of .ensures)
-    (c .before .before .before .before .enum-told2 .given .1) (c .before .before .before .room-for .ensures) (c .before .enum-told4 .given .1)
+    ∙ too-long _ _ _ _ (a .before .before .assembly-of .ensures) (a .frame .given .1) (k .before .before .counts-of .ensures) (k .enum-told2 .given .1)
+    (c .before .before .before .room-for .ensures) (c .before .enum-told4 .given .1)
 
 judge-requires : tie.Need-judge-requires
 judge-requires c κs = search needs
@@ -67,11 +68,12 @@ ended-requires c κs = search needs
 
 returns-4 : tie.Need-returns-4
 returns-4 c =
+    let r = c .before .before .before in
+    let k = r .before .before .before in
+    let a = k .before .before .before .before in
     c .ended .ensures
-    ∙ passed _ _ _ _ (c .before .before .before .before .before .before .before .before .before .before .before .before .assembly-of .ensures) (c .before .before .before .before .before .before .before .before .before .before .frame .given .1)
-    (c .before .before .before .before .before .before .before .before .counts-of .ensures)
-    (c .before .before .before .before .before .before .enum-told2 .given .1) (c .before .before .before .before .before .room-for .ensures) (c .before .before .before .total .given .1)
-    (c .before .judge .ensures)
+    ∙ passed _ _ _ _ (a .before .before .assembly-of .ensures) (a .frame .given .1) (k .before .before .counts-of .ensures) (k .enum-told2 .given .1)
+    (r .before .before .room-for .ensures) (r .total .given .1) (c .before .judge .ensures)
 
 pub continuation-spec : {M : Type 1} → statement M
 continuation-spec =

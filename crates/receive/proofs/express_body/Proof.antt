@@ -30,12 +30,14 @@ returns c =
 
 sub-decide : tie.Need-sub-decide
 sub-decide c =
-    let w = spacious (c .before .before .before .before .before .args .mframe .now) (c .before .before .before .head-of .ensures) (c .before .kind .given .1) in
+    let p = c .before .before .before in
+    let w = spacious (p .before .before .args .mframe .now) (p .head-of .ensures) (c .before .kind .given .1) in
     omega arith
 
 part-decide-start : tie.Need-part-decide-start
 part-decide-start c =
-    let w = spacious (c .before .before .before .before .before .args .mframe .now) (c .before .before .before .head-of .ensures) (c .before .kind .given .1) in
+    let p = c .before .before .before in
+    let w = spacious (p .before .before .args .mframe .now) (p .head-of .ensures) (c .before .kind .given .1) in
     search needs
 
 part-decide-end : tie.Need-part-decide-end
@@ -49,17 +51,20 @@ said-requires c κs = search needs
 
 sub-end : tie.Need-sub-end
 sub-end c =
-    let w = spacious (c .before .before .before .before .before .before .before .before .before .before .args .mframe .now) (c .before .before .before .before .before .before .before .before .head-of .ensures) (c .before .before .before .before .before .before .kind .given .1) in
+    let p = c .before .before .before .before .before .before .before .before in
+    let w = spacious (p .before .before .args .mframe .now) (p .head-of .ensures) (c .before .before .before .before .before .before .kind .given .1) in
     omega arith
 
 sub-result-2 : tie.Need-sub-result-2
 sub-result-2 c =
-    let w = spacious (c .before .before .before .before .before .before .before .before .before .before .args .mframe .now) (c .before .before .before .before .before .before .before .before .head-of .ensures) (c .before .before .before .before .before .before .kind .given .1) in
+    let p = c .before .before .before .before .before .before .before .before in
+    let w = spacious (p .before .before .args .mframe .now) (p .head-of .ensures) (c .before .before .before .before .before .before .kind .given .1) in
     omega arith
 
 part-result-start-2 : tie.Need-part-result-start-2
 part-result-start-2 c =
-    let w = spacious (c .before .before .before .before .before .before .before .before .before .before .args .mframe .now) (c .before .before .before .before .before .before .before .before .head-of .ensures) (c .before .before .before .before .before .before .kind .given .1) in
+    let p = c .before .before .before .before .before .before .before .before in
+    let w = spacious (p .before .before .args .mframe .now) (p .head-of .ensures) (c .before .before .before .before .before .before .kind .given .1) in
     search needs
 
 part-result-end-2 : tie.Need-part-result-end-2
@@ -67,7 +72,9 @@ part-result-end-2 c = search needs
 
 returns-2 : tie.Need-returns-2
 returns-2 c =
-    body _ (c .before .before .before .before .before .before .before .before .before .head-of .ensures) (c .before .before .before .before .before .before .before .kind .given .1) (c .before .before .before .before .decide .result) (c .before .before .before .before .decide .ensures) (c .before .before .before .said .ensures) (c .before .if1 .taken)
+    let d = c .before .before .before .before in
+    body _ (d .before .before .before .before .before .head-of .ensures) (d .before .before .before .kind .given .1)
+    (d .decide .result) (d .decide .ensures) (c .before .before .before .said .ensures) (c .before .if1 .taken)
 
 sub-result-3 : tie.Need-sub-result-3
 sub-result-3 c = search needs
@@ -80,7 +87,9 @@ part-result-end-3 c = search needs
 
 returns-3 : tie.Need-returns-3
 returns-3 c =
-    other _ (c .before .before .before .before .before .before .before .before .before .head-of .ensures) (c .before .before .before .before .before .before .before .kind .given .1) (c .before .before .before .before .decide .result) (c .before .before .before .before .decide .ensures) (c .before .before .before .said .ensures) (c .before .if1 .left)
+    let d = c .before .before .before .before in
+    other _ (d .before .before .before .before .before .head-of .ensures) (d .before .before .before .kind .given .1)
+    (d .decide .result) (d .decide .ensures) (c .before .before .before .said .ensures) (c .before .if1 .left)
 
 pub express-body-spec : {M : Type 1} → statement M
 express-body-spec =

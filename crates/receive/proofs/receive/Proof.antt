@@ -31,12 +31,14 @@ enum-known-kind c = search needs
 
 sub-take : tie.Need-sub-take
 sub-take c =
-    let w = spacious (c .before .before .before .before .before .before .before .before .before .args .mframe .now) (c .before .before .before .head-of .ensures) (c .before .kind .given .1) in
+    let p = c .before .before .before in
+    let w = spacious (p .before .before .before .before .before .before .args .mframe .now) (p .head-of .ensures) (c .before .kind .given .1) in
     omega arith
 
 part-take-start : tie.Need-part-take-start
 part-take-start c =
-    let w = spacious (c .before .before .before .before .before .before .before .before .before .args .mframe .now) (c .before .before .before .head-of .ensures) (c .before .kind .given .1) in
+    let p = c .before .before .before in
+    let w = spacious (p .before .before .before .before .before .before .args .mframe .now) (p .head-of .ensures) (c .before .kind .given .1) in
     search needs
 
 part-take-end : tie.Need-part-take-end
@@ -58,11 +60,14 @@ same-length c = search needs
 
 returns-3 : tie.Need-returns-3
 returns-3 c =
-    answered _ _ _ (c .before .before .before .before .before .before .before .before .before .before .before .if1 .left) (c .before .before .before .before .before .before .before .before .before .before .in-range .ensures) (c .before .before .before .before .before .before .before .before .before .if2 .left) (c .before .before .before .before .before .before .before .before .head-of .ensures) (c .before .before .before .before .before .before .kind .given .1) (c .before .before .take .ensures)
+    let p = c .before .before .before .before .before .before in
+    let q = p .before .before in
+    answered _ _ _ (q .before .before .before .if1 .left) (q .before .before .in-range .ensures) (q .before .if2 .left) (q .head-of .ensures) (p .kind .given .1) (c .before .before .take .ensures)
 
 returns-4 : tie.Need-returns-4
 returns-4 c =
-    faulty _ _ _ (c .before .before .before .before .before .before .before .if1 .left) (c .before .before .before .before .before .before .in-range .ensures) (c .before .before .before .before .before .if2 .left) (c .before .before .before .before .head-of .ensures) (c .before .before .fault .given .1) (c .refuse3 .ensures)
+    let q = c .before .before .before .before in
+    faulty _ _ _ (q .before .before .before .if1 .left) (q .before .before .in-range .ensures) (q .before .if2 .left) (q .head-of .ensures) (c .before .before .fault .given .1) (c .refuse3 .ensures)
 
 pub receive-spec : {M : Type 1} → statement M
 receive-spec =

@@ -18,7 +18,10 @@ writes-requires c κs = search needs
 keep-requires : tie.Need-keep-requires
 keep-requires c κs =
     let a = c .before .before .before .before .before .before .before .args in
-    let w = room (a .kind) (a .octets .now) (a .«record») (a .buffer .now) (c .before .before .before .before .decide .result) (c .before .before .before .before .decide .ensures) (c .before .before .before .said .ensures) (c .before .before .writes .ensures) (c .before .if1 .taken) (omega arith) in
+    let d = c .before .before .before .before in
+    let w =
+    room (a .kind) (a .octets .now) (a .«record») (a .buffer .now) (d .decide .result) (d .decide .ensures) (c .before .before .before .said .ensures)
+    (c .before .before .writes .ensures) (c .before .if1 .taken) (omega arith) in
     (omega arith, (omega arith, omega arith))
 
 same-length : tie.Need-same-length
@@ -26,7 +29,9 @@ same-length c = search needs
 
 returns : tie.Need-returns
 returns c =
-    wrote _ _ _ _ _ (c .before .before .before .before .before .before .before .decide .ensures) (c .before .before .before .before .before .before .said .ensures) (c .before .before .before .before .before .writes .ensures) (c .before .before .before .before .if1 .taken) (c .before .before .keep .ensures)
+    let w = c .before .before .before .before .before in
+    wrote _ _ _ _ _ (w .before .before .decide .ensures) (w .before .said .ensures) (w .writes .ensures) (c .before .before .before .before .if1 .taken)
+    (c .before .before .keep .ensures)
 
 returns-2 : tie.Need-returns-2
 returns-2 c =

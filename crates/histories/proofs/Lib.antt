@@ -1,0 +1,3 @@
+pub mod Histories
+pub mod Right
+pub mod Tally

@@ -1,0 +1,12 @@
+pub mod Counts
+pub mod Taken
+pub mod Buffer
+pub mod Flow
+pub mod Inv
+pub mod Kept
+pub mod Link
+pub mod Send
+pub mod Calls
+pub mod Alike
+pub mod InStep
+pub mod Demand

@@ -1,0 +1,4 @@
+pub mod Sender
+pub mod Frames
+pub mod Receiver
+pub mod Demand

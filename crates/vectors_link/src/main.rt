@@ -1,0 +1,238 @@
+// Plays the pseudo-random link of the reference: a sender and a receiver, with cuts, holds, changes of extra and lost mFrames, each entry
+// from a seed. tests/reference/README.md has the rule; what is delivered is compared with the reference's own link.
+mod chance;
+mod tally;
+
+use crate::tally::Tally;
+use cut::Ask;
+use mframe::Answer;
+use questions::read;
+use questions::say;
+
+// The state of an entry: the numbers drawn, both ends, the body of the frame chosen last, and what is counted.
+struct Link {
+    x: u32,
+    sender: send::Record,
+    receiver: answers::Record,
+    seed: u32,
+    length: usize,
+    tally: Tally,
+}
+
+// The body of a delivered frame: its FCS.
+fn say_body(body: &[u8]) {
+    say::octets(crc::fcs(crc::over(crc::ALL_ONES, body)));
+}
+
+// An mFrame that arrives: the receiver's answer.
+fn arrive(l: Link, mframe: &[u8], buffer: &mut [u8]) -> Link {
+    let r = l.receiver;
+    let got = receive::receive(mframe, r, buffer);
+    let answer = got.answer;
+    let after = got.after;
+    let said = answer.said();
+    say::first(said.number as u64);
+    say::number(said.detail as u64);
+    if said.number == 0 {
+        say_body(receive::express_body(mframe));
+    }
+    if said.number == 1 {
+        say_body(read::front(buffer, said.detail));
+    }
+    say::line_end();
+    let t = l.tally;
+    Link {
+        receiver: after,
+        tally: t.answered(said.number),
+        ..l
+    }
+}
+
+// The fate of an mFrame of so many octets: lost or not. A preemptable one is not lost while three in a row were.
+fn fate(l: Link, out: &[u8], length: usize, preemptable: bool, buffer: &mut [u8]) -> Link {
+    let x = chance::step(l.x);
+    let t = l.tally;
+    let spared = preemptable && t.run == 3;
+    if chance::one_of(x, 3) == 0 && !spared {
+        return Link {
+            x,
+            tally: t.lost(preemptable),
+            ..l
+        };
+    }
+    let on = Link {
+        x,
+        tally: t.arrived(preemptable),
+        ..l
+    };
+    arrive(on, read::front(out, length), buffer)
+}
+
+// What a call that no record is kept for wrote.
+fn written(l: Link, answer: Answer, out: &[u8], buffer: &mut [u8]) -> Link {
+    match answer {
+        Answer::Wrote { length, done: _ } => fate(l, out, length, false, buffer),
+        Answer::Refused(_) => l,
+    }
+}
+
+// A length of a body, from a draw.
+fn body_length(x: u32) -> usize {
+    60 + chance::one_of(x, 1459) as usize
+}
+
+fn express(l: Link, space: &mut [u8], out: &mut [u8], buffer: &mut [u8]) -> Link {
+    let x = chance::step(l.x);
+    let n = body_length(x);
+    chance::body(x, n, space);
+    let answer = mframe::express(read::front(space, n), out);
+    written(Link { x, ..l }, answer, out, buffer)
+}
+
+// A frame chosen for a preemptable call, where none is in progress.
+fn chosen(l: Link) -> Link {
+    let s = l.sender;
+    if s.length != 0 {
+        return l;
+    }
+    let x = chance::step(l.x);
+    let t = l.tally;
+    Link {
+        x,
+        seed: x,
+        length: body_length(x),
+        tally: t.begun(),
+        ..l
+    }
+}
+
+// The ask of a preemptable call, from two draws.
+fn ask_of(a: u32, t: u32) -> Ask {
+    if chance::one_of(a, 4) == 0 {
+        return Ask::None;
+    }
+    Ask::At(chance::one_of(t, 400) as usize)
+}
+
+fn preemptable(first: Link, space: &mut [u8], out: &mut [u8], buffer: &mut [u8]) -> Link {
+    let l = chosen(first);
+    let n = l.length;
+    let a = chance::step(l.x);
+    let x = chance::step(a);
+    chance::body(l.seed, n, space);
+    let s = l.sender;
+    let sent = send::preemptable(s, read::front(space, n), ask_of(a, x), out);
+    let answer = sent.answer;
+    let after = sent.after;
+    let on = Link {
+        x,
+        sender: after,
+        ..l
+    };
+    match answer {
+        Answer::Wrote { length, done } => ended(fate(on, out, length, true, buffer), done),
+        Answer::Refused(_) => on,
+    }
+}
+
+// The frame's end counts it.
+fn ended(l: Link, done: bool) -> Link {
+    let t = l.tally;
+    if done {
+        return Link {
+            tally: t.ended(),
+            ..l
+        };
+    }
+    l
+}
+
+fn held(l: Link) -> Link {
+    let x = chance::step(l.x);
+    let s = l.sender;
+    let hold = chance::one_of(x, 4) == 0;
+    let sender = send::Record { hold, ..s };
+    Link { x, sender, ..l }
+}
+
+fn stretched(l: Link) -> Link {
+    let x = chance::step(l.x);
+    let s = l.sender;
+    let extra = (chance::one_of(x, 4) % 256) as u8;
+    let sender = send::Record { extra, ..s };
+    Link { x, sender, ..l }
+}
+
+fn one_turn(before: Link, space: &mut [u8], out: &mut [u8], buffer: &mut [u8]) -> Link {
+    let x = chance::step(before.x);
+    let d = chance::one_of(x, 16);
+    let l = Link { x, ..before };
+    match d {
+        0 => express(l, space, out, buffer),
+        1 => {
+            let answer = mframe::verify(out);
+            written(l, answer, out, buffer)
+        }
+        2 => {
+            let answer = mframe::respond(out);
+            written(l, answer, out, buffer)
+        }
+        3 => held(l),
+        4 => stretched(l),
+        _ => preemptable(l, space, out, buffer),
+    }
+}
+
+fn say_end(l: Link) {
+    let t = l.tally;
+    let r = l.receiver;
+    let c = r.counters;
+    say::text(b"end");
+    tally::write(t);
+    say::number(c.errors as u64);
+    say::number(c.delimiters as u64);
+    say::number(c.assembled as u64);
+    say::number(c.fragments as u64);
+    say::line_end();
+}
+
+// All turns of an entry.
+fn play(first: Link, turns: u32, space: &mut [u8], out: &mut [u8], buffer: &mut [u8]) {
+    let mut l = first;
+    let mut k = turns;
+    while k > 0 {
+        l = one_turn(l, space, out, buffer);
+        k -= 1;
+    }
+    say_end(l);
+}
+
+fn entry() -> bool {
+    let mut seed = [0u8; 4];
+    let mut turns = [0u8; 4];
+    let mut space = [0u8; 1518];
+    let mut out = [0u8; 1530];
+    let mut buffer = [0u8; 1518];
+    if !read::all(&mut seed) || !read::all(&mut turns) {
+        return false;
+    }
+    let first = Link {
+        x: read::word(seed[0], seed[1], seed[2], seed[3]),
+        sender: send::Record::fresh(true, false, 0),
+        receiver: answers::Record::FRESH,
+        seed: 0,
+        length: 0,
+        tally: Tally::NONE,
+    };
+    let k = read::word(turns[0], turns[1], turns[2], turns[3]);
+    play(first, k, &mut space, &mut out, &mut buffer);
+    true
+}
+
+// A proved loop has to end, and nothing says that the input does: it counts its turns down from more than any input has.
+fn main() {
+    let mut turns = u32::MAX;
+    while turns > 0 && entry() {
+        turns -= 1;
+    }
+}
