@@ -2,7 +2,7 @@
 # Needed: the Rattle kit (rt), make and python3.
 MAKERS := $(sort $(wildcard tests/reference/vectors_*.py)) tests/reference/traces.py
 
-.PHONY: list test vectors prove
+.PHONY: list test vectors drawings prove
 
 # Lists a trace: make list, or make list TRACE=file. Proves and builds what is missing.
 list:
@@ -15,6 +15,10 @@ test:
 # Makes the stored vectors and traces anew.
 vectors:
 	@for maker in $(MAKERS); do python3 $$maker || exit 1; done
+
+# Draws the pictures of the documents anew.
+drawings:
+	@scripts/draw-press && scripts/draw-crates
 
 # The edit loop: proves what changed, and runs the programs.
 prove:

@@ -1,5 +1,4 @@
 pub mod Laws
 pub mod Numbered
 pub mod Once
-pub mod Rules
 pub mod Whole

@@ -1,6 +1,6 @@
 -- `send::part::check` meets its contract.
 -- Assumes nothing.
-use Rattle.send.proofs.Rules.{tests}
+use Rattle.mframe.proofs.Rules.{tests}
 use borrow.Author.Needs.{needs}
 use Rattle.send.proofs.part.check.Statement.{statement}
 use Rattle.send.proofs.part.check.Tie as tie

@@ -1,6 +1,6 @@
 -- `send::part::moved` meets its contract.
 -- Assumes nothing.
-use Rattle.send.proofs.Rules.{tests}
+use Rattle.mframe.proofs.Rules.{tests}
 use borrow.Author.Needs.{needs}
 use Rattle.send.proofs.part.moved.Statement.{statement}
 use Rattle.send.proofs.part.moved.Tie as tie
