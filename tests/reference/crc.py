@@ -12,10 +12,14 @@ from functools import lru_cache
 # x^32 + x^26 + x^23 + x^22 + x^16 + x^12 + x^11 + x^10 + x^8 + x^7 + x^5 + x^4 + x^2 + x + 1.
 # The leading 1 is written out, because the division subtracts all 33 coefficients.
 GENERATOR = 0x1_04C1_1DB7
+GENERATOR_BITS = 33
 CHECK_BITS = 32
 CHECK_OCTETS = 4
 
 ALL_ONES = 0xFFFF_FFFF
+
+# So many bits of the dividend are brought down at a time; any number would do.
+BROUGHT_DOWN = 96
 
 # An octet goes over the wire lowest bit first.
 WIRE_BITS_OF_OCTET = [format(octet, "08b")[::-1] for octet in range(256)]
@@ -34,11 +38,18 @@ def octets_from_wire(check):
 
 
 def remainder(dividend):
-    """What is left when `dividend` is divided by the generator, coefficients modulo 2."""
-    while dividend.bit_length() > CHECK_BITS:
-        # The generator is moved under the dividend's highest 1 and taken away.
-        dividend ^= GENERATOR << (dividend.bit_length() - GENERATOR.bit_length())
-    return dividend
+    """What is left when `dividend` is divided by the generator, coefficients modulo 2.
+
+    As on paper, the dividend's next bits are brought down behind what is left so far.
+    """
+    left = 0
+    groups = dividend.bit_length() // BROUGHT_DOWN + 1
+    for place in range((groups - 1) * BROUGHT_DOWN, -1, -BROUGHT_DOWN):
+        left = left << BROUGHT_DOWN | dividend >> place & (1 << BROUGHT_DOWN) - 1
+        while (room := left.bit_length() - GENERATOR_BITS) >= 0:
+            # The generator is moved under the highest 1 and taken away.
+            left ^= GENERATOR << room
+    return left
 
 
 def mirrored(word):

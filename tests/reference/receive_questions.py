@@ -12,6 +12,7 @@ import crc
 import exchange
 import mframe
 import receiving
+import witness
 from chance import Chance
 from reader import lent_memory
 from receive_format import buffer_question, mframe_question, record_question
@@ -459,6 +460,14 @@ def random_histories(script, chance):
             script.give(octets)
 
 
+def four_lost_in_a_row(script, _):
+    """A frame of which four mFrames are lost, so made that nothing shows it: a body is delivered that nobody sent."""
+    script.set_buffer(1518, 77)
+    script.set_record()
+    for octets in witness.arriving():
+        script.give(octets)
+
+
 def all_questions():
     """Every question, in the order in which they are stored."""
     script = Script()
@@ -468,6 +477,6 @@ def all_questions():
     for part in (every_answer, rooms, lengths, preambles, late_delimiters, early_delimiters, fragment_codes,
                  order_of_refusals, records, running_checks, whole_checks, starts_over_an_open_assembly,
                  drops_of_continuations, counters_going_round, many_fragments, losses, damage_anywhere,
-                 random_histories):
+                 random_histories, four_lost_in_a_row):
         part(script, chance)
     return script.questions

@@ -10,6 +10,7 @@ from collections import Counter
 
 import receive_format
 import receive_questions
+import witness
 from receive_answers import answers
 
 
@@ -115,6 +116,13 @@ class Questions(unittest.TestCase):
     def test_every_number_of_bits_is_met(self):
         details = {line.split()[1] for line in self.answers if line.startswith("15 ")}
         self.assertEqual(details, {"1", "2", "3", "4"})
+
+    def test_a_body_that_nobody_sent(self):
+        # The last history: a start is kept, and a part that is not its next one completes it.
+        kept, completed = (line.split() for line in self.answers[-2:])
+        self.assertEqual((kept[:2], completed[:2]), (["2", "64"], ["1", "124"]))
+        expected = memory(1518, 77, witness.body_never_sent())
+        self.assertEqual(completed[-4:], [check(expected), "0", "0", "00000000"])
 
     def test_sizes_stay_small(self):
         self.assertLess(sum(len(question) for question in self.questions), 700_000)
