@@ -11,6 +11,7 @@ use lib.ListN.{length, length-append, length-drop}
 use lib.Seq.{take-at, drop-at}
 use Rattle.crc.specs.Crc.{registerOver, fcsOf, mcrcOf}
 use Rattle.crc.specs.Judge.{dataOf, lastFour, same, decided, endingOf}
+use Rattle.crc.specs.declared.Ending.{Ending}
 use Rattle.crc.specs.declared.Ending.the-variants.{Done, More, Damaged}
 use Rattle.crc.proofs.Laws.{fcs-length, mcrc-length, fcs-not-mcrc}
 
@@ -99,3 +100,18 @@ pub ending-more : (r : ℕ) (xs : List ℕ) → endingOf r (xs ++ mcrcOf (regist
 ending-more r xs =
     let h = mcrc-length (registerOver r xs) in
     rw (data-of xs _ h, four-of xs _ h, before xs _ h) (more-if _ _ _ refl)
+
+-- what any octets s, after the register r, end with: the data octets counted, and their register
+abbrev pub Ends : ℕ → List ℕ → Ending → Type 0
+Ends r s (Done n) = n ≡ length s - 4
+Ends r s (More n running) = (n ≡ length s - 4) × (running ≡ registerOver r (dataOf s))
+Ends r s Damaged = Unit {0}
+
+pub ends : (r : ℕ) (s : List ℕ) → Ends r s (endingOf r s)
+unfolding decided
+ends r s = go (same (lastFour s) (fcsOf (registerOver r (dataOf s)))) (same (lastFour s) (mcrcOf (registerOver r (dataOf s))))
+  where
+    go : (t u : Bool) → Ends r s (cond t (Done (length s - 4)) (cond u (More (length s - 4) (registerOver r (dataOf s))) Damaged))
+    go true u = refl
+    go false true = (refl, refl)
+    go false false = tt

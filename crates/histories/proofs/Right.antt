@@ -30,8 +30,8 @@ use Rattle.answers.specs.Answers.{says}
 use Rattle.answers.specs.Records.{strayed, shut, opened, counting, inRange}
 use Rattle.assembly.specs.Steps.{Step, unchanged, abandoned, expressOf, heardOf, startOf, endedOf, unexpected, totalOf, continuationOf, stepOf}
 use Rattle.receive.specs.Receive.{byHead, receivedOf, upTo, leftOf, dataIn, bufferOf}
-use Rattle.receive.proofs.Heads.{Number, n12, n13, n14, n15, n16, n17, Good, head-good}
-use Rattle.receive.proofs.Laws.{Ends, ends}
+use Rattle.mframe.proofs.Heads.{Number, n12, n13, n14, n15, n16, n17, Good, head-good}
+use Rattle.crc.proofs.Endings.{Ends, ends}
 
 -- an assembly that is open
 pub record Held (f : FrameCount) (g : FragmentCount) (n c : ℕ) (b : List ℕ) : Type 0 where

@@ -23,7 +23,7 @@ use Rattle.answers.specs.Answers.{says}
 use Rattle.answers.specs.Records.{erred, strayed, joined, completed, opened, inRange}
 use Rattle.assembly.specs.Steps.{Step, one, unchanged, abandoned, expressOf, heardOf, startOf, endedOf, unexpected, totalOf, continuationOf, stepOf}
 use Rattle.receive.specs.Receive.{byHead, receivedOf}
-use Rattle.receive.proofs.Heads.{Number, n12, n13, n14, n15, n16, n17, Good, head-good}
+use Rattle.mframe.proofs.Heads.{Number, n12, n13, n14, n15, n16, n17, Good, head-good}
 use Rattle.histories.specs.History.{Call, callOf, started, delivered, abandoning, damagedStart, misdelimited, completing, continuing}
 use Rattle.histories.proofs.Right.{Right, idle, going, right-ranges}
 

@@ -25,7 +25,7 @@ use Rattle.answers.specs.Answers.{says}
 use Rattle.answers.specs.Records.{strayed, shut, opened, counting}
 use Rattle.assembly.specs.Steps.{Step, delimiterError, unchanged, abandoned, expressOf, heardOf, startOf, endedOf, unexpected, totalOf, continuationOf, stepOf}
 use Rattle.receive.specs.Receive.{leftOf}
-use Rattle.receive.proofs.Laws.{Ends, ends}
+use Rattle.crc.proofs.Endings.{Ends, ends}
 use Rattle.link.specs.Frames.{ifSo}
 use Rattle.link.proofs.Buffer.{keeps, as-long}
 

@@ -18,8 +18,8 @@ use Rattle.answers.specs.Answers.{says}
 use Rattle.answers.specs.Records.{fresh, counting, inRange}
 use Rattle.assembly.specs.Steps.{Step, unchanged}
 use Rattle.receive.specs.Receive.{byHead, receivedOf, dataIn, bufferOf, bodyOf}
-use Rattle.receive.proofs.Heads.{Number, n12, n13, n14, n15, n16, n17, Good, head-good}
-use Rattle.receive.proofs.Laws.{ends}
+use Rattle.mframe.proofs.Heads.{Number, n12, n13, n14, n15, n16, n17, Good, head-good}
+use Rattle.crc.proofs.Endings.{ends}
 use Rattle.histories.specs.History.{isStart, refusal}
 use Rattle.link.specs.Frames.{ifSo}
 use Rattle.link.specs.Receiver.{Given, receiving, unrefusedStart}

@@ -1,3 +1,4 @@
 pub mod Answers
+pub mod Heads
 pub mod Laws
 pub mod Rules

@@ -10,9 +10,10 @@ use lib.Dec.{eqb, ltb}
 use lib.ListN.{length}
 use Rattle.codes.specs.declared.FrameCount.{FrameCount}
 use Rattle.codes.specs.declared.FragmentCount.{FragmentCount}
-use Rattle.crc.specs.Crc.{allOnes, registerOver, fcsOf, mcrcOf}
-use Rattle.crc.specs.Judge.{dataOf, lastFour, same, decided, endingOf}
+use Rattle.crc.specs.Crc.{allOnes}
+use Rattle.crc.specs.Judge.{endingOf}
 use Rattle.crc.specs.declared.Ending.{Ending}
+use Rattle.crc.proofs.Endings.{Ends, ends}
 use Rattle.crc.specs.declared.Ending.the-variants.{Done, More, Damaged}
 use Rattle.mframe.specs.Head.{refusal}
 use Rattle.mframe.specs.declared.Kind.{Kind}
@@ -49,21 +50,6 @@ refused-body Preamble m = refl
 refused-body (Delimiter bits) m = refl
 refused-body Place m = refl
 refused-body Fragment m = refl
-
--- what the octets s, after the register r, end with
-abbrev pub Ends : ℕ → List ℕ → Ending → Type 0
-Ends r s (Done n) = n ≡ length s - 4
-Ends r s (More n running) = (n ≡ length s - 4) × (running ≡ registerOver r (dataOf s))
-Ends r s Damaged = Unit {0}
-
-pub ends : (r : ℕ) (s : List ℕ) → Ends r s (endingOf r s)
-unfolding decided
-ends r s = go (same (lastFour s) (fcsOf (registerOver r (dataOf s)))) (same (lastFour s) (mcrcOf (registerOver r (dataOf s))))
-  where
-    go : (t u : Bool) → Ends r s (cond t (Done (length s - 4)) (cond u (More (length s - 4) (registerOver r (dataOf s))) Damaged))
-    go true u = refl
-    go false true = (refl, refl)
-    go false false = tt
 
 -- data that are written end behind their own number, within the longest body
 abbrev pub Within : List ℕ → Step → Type 0

@@ -1,4 +1,3 @@
-pub mod Heads
 pub mod Laws
 pub mod Once
 pub mod Promise

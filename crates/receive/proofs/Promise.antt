@@ -24,7 +24,7 @@ use Rattle.answers.specs.Answers.{says, faulted, said}
 use Rattle.answers.specs.Records.{fresh, inRange}
 use Rattle.assembly.specs.Steps.{Step, told, unchanged, stepOf}
 use Rattle.receive.specs.Receive.{byHead, receivedOf, upTo, writes, leftOf, dataIn, bufferOf, Answered, Taken, bodyOf}
-use Rattle.receive.proofs.Heads.{Good, head-good}
+use Rattle.mframe.proofs.Heads.{Good, head-good}
 use Rattle.receive.proofs.Laws.{refused-step, refused-writes, refused-body, step-within}
 
 -- keep

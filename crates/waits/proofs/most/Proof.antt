@@ -1,6 +1,6 @@
 -- `waits::most` is safe and ends.
 -- Assumes nothing.
-use Prim.Native.Nat.{_≤_, _-_, max}
+use Prim.Native.Nat.{_-_}
 use native.Mathlib.Omega.{arith}
 use borrow.Author.Needs.{needs}
 use Rattle.waits.proofs.most.Statement.{statement}
