@@ -78,10 +78,11 @@ impl Cursor {
         if end - start < length {
             return Read::Refused(Refusal::Content);
         }
+        let past = start + length;
         Read::Record {
             start,
             length,
-            next: Cursor { at: start + length },
+            next: Cursor { at: past },
         }
     }
 }

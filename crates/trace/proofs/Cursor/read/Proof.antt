@@ -58,8 +58,8 @@ sub-if5 c = search needs
 returns-5 : tie.Need-returns-5
 returns-5 c = sym (content-cut _ _ (omega arith) (omega arith) (omega arith) (omega arith))
 
-add-t16 : tie.Need-add-t16
-add-t16 c = search needs
+add-past : tie.Need-add-past
+add-past c = search needs
 
 returns-6 : tie.Need-returns-6
 returns-6 c = sym (read-whole _ _ _ (omega arith) (omega arith) (omega arith) (omega arith) (omega arith))
@@ -85,5 +85,5 @@ read-spec =
     add-start
     sub-if5
     returns-5
-    add-t16
+    add-past
     returns-6)
