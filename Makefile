@@ -23,3 +23,6 @@ drawings:
 # The edit loop: proves what changed, and runs the programs.
 prove:
 	@rt check
+
+# The C side, the board and the benchmark: make c-test, make board, make bench.
+include tests/c/c.mk

@@ -60,10 +60,11 @@ static const uint32_t all_ones = 0xffffffff;
 /* What an mCRC is over an FCS: its last two octets inverted. The first octet is the lowest. */
 static const uint32_t mcrc_inverts = 0xffff0000;
 
-static uint32_t crc_over(uint32_t crc, const uint8_t *octets, size_t n)
+/* Not drawn into its callers, where the loop would take an instruction more. */
+__attribute__((noinline)) static uint32_t crc_over(uint32_t crc, const uint8_t *octets, size_t n)
 {
-	for (size_t i = 0; i < n; i++)
-		crc = crc >> 8 ^ crc_table[(crc ^ octets[i]) & 0xff];
+	for (const uint8_t *end = octets + n; octets != end; octets++)
+		crc = crc >> 8 ^ crc_table[(crc ^ *octets) & 0xff];
 	return crc;
 }
 

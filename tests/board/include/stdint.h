@@ -7,9 +7,4 @@ typedef __UINT32_TYPE__ uint32_t;
 typedef __UINT64_TYPE__ uint64_t;
 typedef __UINTPTR_TYPE__ uintptr_t;
 #define UINT32_MAX __UINT32_MAX__
-#define UINT64_MAX __UINT64_MAX__
-#define UINT64_C(x) __UINT64_C(x)
-#ifndef __UINT64_C
-#define __UINT64_C(x) x##ULL
-#endif
 #endif

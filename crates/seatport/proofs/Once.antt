@@ -1,0 +1,38 @@
+-- No second answer, no other words and no other octets meet a promise of this crate.
+-- Assumes nothing.
+use mathlib.Core.Path.{_≡_, sym, _∙_}
+use mathlib.Core.List.{List}
+use Prim.Native.Nat.{ℕ}
+use Rattle.mframe.specs.Sending.{Outcome}
+use Rattle.trace.specs.Trace.{Said}
+use Rattle.seatport.specs.Sending.{Wrote, Sending, Sent}
+use Rattle.seatport.specs.Receiving.{Receiving, Received, partOf}
+use Rattle.seatport.specs.Verifying.{Verifying, Taken}
+use Rattle.seatport.specs.Tracing.{Traced}
+
+-- seatport_express, seatport_verify, seatport_respond
+pub wrote-once : (o : Outcome) (out : List ℕ) {m n : ℕ} {v w x y : List ℕ} → Wrote o out m v x → Wrote o out n w y → (m ≡ n) × ((v ≡ w) × (x ≡ y))
+wrote-once o out p q = (p .answer ∙ sym (q .answer), (p .words ∙ sym (q .words), p .octets ∙ sym (q .octets)))
+
+-- seatport_preemptable
+pub sent-once : (s : Sending) (out : List ℕ) {m n : ℕ} {a b v w x y : List ℕ} → Sent s out m a v x → Sent s out n b w y
+    → (m ≡ n) × ((a ≡ b) × ((v ≡ w) × (x ≡ y)))
+sent-once s out p q =
+    (p .answer ∙ sym (q .answer), (p .after ∙ sym (q .after), (p .words ∙ sym (q .words), p .octets ∙ sym (q .octets))))
+
+-- seatport_receive
+pub received-once : (s : Receiving) {m n d e : ℕ} {a b x y : List ℕ} → Received s m d a x → Received s n e b y → (m ≡ n) × ((d ≡ e) × ((a ≡ b) × (x ≡ y)))
+received-once s p q =
+    (p .answer ∙ sym (q .answer), (p .value ∙ sym (q .value), (p .after ∙ sym (q .after), p .octets ∙ sym (q .octets))))
+
+-- seatport_express_body
+pub part-once : (m : List ℕ) {x y : List ℕ} → x ≡ partOf m → y ≡ partOf m → x ≡ y
+part-once m p q = p ∙ sym q
+
+-- seatport_step
+pub taken-once : (s : Verifying) {m n d e : ℕ} {a b : List ℕ} → Taken s m d a → Taken s n e b → (m ≡ n) × ((d ≡ e) × (a ≡ b))
+taken-once s p q = (p .answer ∙ sym (q .answer), (p .value ∙ sym (q .value), p .after ∙ sym (q .after)))
+
+-- seatport_trace
+pub traced-once : (s : Said) {m n : ℕ} {v w : List ℕ} → Traced s m v → Traced s n w → (m ≡ n) × (v ≡ w)
+traced-once s p q = (p .answer ∙ sym (q .answer), p .words ∙ sym (q .words))

@@ -1,0 +1,5 @@
+pub mod Receiving
+pub mod Sending
+pub mod Tracing
+pub mod Verifying
+pub mod Words

@@ -1,0 +1,76 @@
+-- The receiving calls as C sees them: the number that is returned, the detail, the receiving record's words afterwards, and every octet of
+-- the lent buffer; the express body as where it starts and how long it is. Assumes nothing.
+use mathlib.Core.Path.{_≡_}
+use mathlib.Core.Bool.{Bool, cond, _&&_}
+use mathlib.Core.List.{List, [], _∷_}
+use Prim.Native.Nat.{ℕ}
+use lib.Dec.{eqb, ltb}
+use lib.ListN.{length}
+use Rattle.codes.specs.Codes.{frame, fragment}
+use Rattle.mframe.specs.Head.{Reading, known, refused, headOf}
+use Rattle.answers.specs.declared.Record.{Record}
+use Rattle.answers.specs.Records.{fresh}
+use Rattle.assembly.specs.Steps.{Step}
+use Rattle.receive.specs.Receive.{receivedOf, bufferOf, bodyOf}
+use Rattle.seatport.specs.Words.{flag, word, isFlag, flagAt, isCount}
+
+-- the receiving record in nine words, the four counters last
+abbrev pub receiverWords : Record → List ℕ
+receiverWords r =
+    flag (r .assembling)
+    ∷ r .frame .0
+    ∷ r .fragment .0
+    ∷ r .kept
+    ∷ r .running
+    ∷ r .counters .errors
+    ∷ r .counters .delimiters
+    ∷ r .counters .assembled
+    ∷ r .counters .fragments
+    ∷ []
+
+-- whether nine words are a record's, and the record that they then are
+unfoldable pub receiverFits : List ℕ → Bool
+receiverFits w = isFlag w 0 && (isCount w 1 && isCount w 2)
+
+abbrev pub receiverOf : List ℕ → Record
+receiverOf w = record {
+  assembling = flagAt w 0;
+  frame = frame (word w 1);
+  fragment = fragment (word w 2);
+  kept = word w 3;
+  running = word w 4;
+  counters = record { errors = word w 5; delimiters = word w 6; assembled = word w 7; fragments = word w 8 };
+}
+
+-- what comes of a call
+pub record Receiving : Type 0 where
+  pub number : ℕ
+  pub detail : ℕ
+  pub receiver : List ℕ
+  pub buffer : List ℕ
+
+abbrev pub told : Step → List ℕ → Receiving
+told s buffer = record { number = s .said .number; detail = s .said .detail; receiver = receiverWords (s .after); buffer = buffer }
+
+-- words that are no record's get 11, or the table's 10 before it; the words and the buffer stay
+abbrev pub unfit : List ℕ → List ℕ → Receiving
+unfit w buffer = record { number = cond (ltb (length buffer) 1518) 10 11; detail = 0; receiver = w; buffer = buffer }
+
+unfoldable pub receivingOf : List ℕ → List ℕ → List ℕ → Receiving
+receivingOf w m buffer =
+    cond (receiverFits w) (told (receivedOf m (receiverOf w) (length buffer)) (bufferOf m (receiverOf w) buffer)) (unfit w buffer)
+
+-- the promise of receive: the number, the detail, the receiver's words, and every octet of the buffer
+pub record Received (p : Receiving) (number detail : ℕ) (receiver buffer : List ℕ) : Type 0 where
+  pub answer : number ≡ p .number
+  pub value : detail ≡ p .detail
+  pub after : receiver ≡ p .receiver
+  pub octets : buffer ≡ p .buffer
+
+-- the express body: where the data start and how many they are, or the empty part at the mFrame's front
+abbrev pub startOf : Reading → ℕ
+startOf (known kind place) = place
+startOf (refused number detail) = 0
+
+unfoldable pub partOf : List ℕ → List ℕ
+partOf m = cond (eqb (receivedOf m fresh 1518 .said .number) 0) (startOf (headOf m) ∷ length (bodyOf m) ∷ []) (0 ∷ 0 ∷ [])

@@ -1,0 +1,16 @@
+// The port for C and Rust to link: an exported function for each public call of document 01, over numbers, lent octets and records that are
+// words of 32 bits. include/seatport.h declares them.
+mod receiving;
+mod sending;
+mod tracing;
+mod verifying;
+mod words;
+
+pub use receiving::seatport_express_body;
+pub use receiving::seatport_receive;
+pub use sending::seatport_express;
+pub use sending::seatport_preemptable;
+pub use sending::seatport_respond;
+pub use sending::seatport_verify;
+pub use tracing::seatport_trace;
+pub use verifying::seatport_step;

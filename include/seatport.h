@@ -1,0 +1,205 @@
+/* seatport.h: IEEE 802.3br frame preemption in software, for a port that has none in its hardware.
+ *
+ * Each function is one call of document 01, "The seat port and its rules". It works on memory that the caller lends for
+ * the length of the call and keeps nothing: no allocation, no statics, no working memory but some stack. Several ports, or
+ * calls from several threads, need nothing but records and buffers of their own.
+ *
+ * Link with libseatport.a. Every function is proved to do what is said here and never to touch other memory, provided that
+ *   - no pointer is null, also where a length is 0, and each points to as much memory as the call says;
+ *   - pieces of memory lent to one call do not overlap, unless the call only reads both.
+ *
+ * Lengths are uint64_t on every machine. All fields of a record are uint32_t; a flag is 0 or 1. Values that fit no record
+ * are refused by number and change nothing. A record that is all zero is fresh: write `struct seatport_sender s = {0};`,
+ * and set active, hold and extra as you need them.
+ */
+#ifndef SEATPORT_H
+#define SEATPORT_H
+
+#include <stdint.h>
+
+#ifdef __cplusplus
+extern "C" {
+#endif
+
+/* Sizes in octets. An mFrame counts from its first preamble octet to its last check octet, a body is a frame without its
+ * check octets. */
+enum seatport_size {
+	SEATPORT_BODY_MIN = 60,
+	SEATPORT_BODY_MAX = 1518,
+	SEATPORT_MFRAME_MIN = 72,
+	SEATPORT_MFRAME_MAX = 1530,
+	SEATPORT_OUTPUT = 1530,  /* the least output buffer of a sending call */
+	SEATPORT_ASSEMBLY = 1518 /* the least assembly buffer of seatport_receive */
+};
+
+/* ---- Sending -------------------------------------------------------------------------------------------------------- */
+
+/* What a sending call returns. A refused call writes nothing to the output buffer and leaves the record as it was. */
+enum seatport_sent {
+	SEATPORT_WRITTEN = 0,
+	SEATPORT_OUTPUT_SHORT = 30, /* output buffer under SEATPORT_OUTPUT octets */
+	SEATPORT_SENDER_BAD = 31,   /* sending record outside its ranges */
+	SEATPORT_BODY_BAD = 32,     /* body not SEATPORT_BODY_MIN to SEATPORT_BODY_MAX octets */
+	SEATPORT_BODY_OTHER = 33,   /* body length differs from the frame in progress */
+	SEATPORT_HELD = 34          /* active and hold set, preemptable call */
+};
+
+/* The mFrame that a call wrote at the front of the output buffer: its length, and whether the frame is done with it. Both
+ * are 0 after a refusal. */
+struct seatport_written {
+	uint32_t length;
+	uint32_t done;
+};
+
+/* What the sending side keeps between calls. The caller sets the first three as the port is to behave; the others are the
+ * port's. */
+struct seatport_sender {
+	uint32_t active;   /* preemption is on: link verified, or not asked for */
+	uint32_t hold;     /* no preemptable mFrame may begin */
+	uint32_t extra;    /* 0 to 3: a cut leaves at least 64 * (1 + extra) data octets before it */
+	uint32_t next;     /* 0 to 3: frame count of the next preemptable frame */
+	uint32_t length;   /* of the frame in progress: its body's length, or 0 */
+	uint32_t sent;     /* its octets sent */
+	uint32_t fragment; /* its next fragment count */
+};
+
+/* An express body as one mFrame: header, body, FCS. Returns 0, 30 or 32. */
+uint32_t seatport_express(const uint8_t *body, uint64_t length, uint8_t *output, uint64_t room,
+			  struct seatport_written *written);
+
+/* No express frame waits. (The greatest number: octets that will never be on the wire.) */
+#define SEATPORT_NO_ASK ((uint64_t)-1)
+
+/* The next mFrame of a preemptable frame. The body is handed in whole at each call until written->done. `ask` is the number
+ * of this mFrame's data octets that are on the wire when an express frame waits or hold comes: the mFrame is then cut there
+ * or at the first place behind it where a cut is lawful; SEATPORT_NO_ASK if there is no such wish. Where sender->active is
+ * 0 a new frame goes whole as express and the ask is ignored. Returns 0 or 30 to 34. */
+uint32_t seatport_preemptable(struct seatport_sender *sender, const uint8_t *body, uint64_t length, uint64_t ask,
+			      uint8_t *output, uint64_t room, struct seatport_written *written);
+
+/* The mFrames of link verification, 72 octets each. Return 0 or 30. */
+uint32_t seatport_verify(uint8_t *output, uint64_t room, struct seatport_written *written);
+uint32_t seatport_respond(uint8_t *output, uint64_t room, struct seatport_written *written);
+
+/* ---- Receiving ------------------------------------------------------------------------------------------------------ */
+
+/* What seatport_receive returns, and its detail where it has one. */
+enum seatport_answer {
+	SEATPORT_EXPRESS = 0,         /* express delivered; detail: body length. seatport_express_body says where it is */
+	SEATPORT_PREEMPTABLE = 1,     /* preemptable delivered; detail: body length. The body is at the buffer's front */
+	SEATPORT_FRAGMENT = 2,        /* fragment kept; detail: octets kept so far */
+	SEATPORT_VERIFY_HEARD = 3,    /* a V: hand it to seatport_event */
+	SEATPORT_RESPOND_HEARD = 4,   /* an R: hand it to seatport_event */
+	SEATPORT_BUFFER_SHORT = 10,   /* refused: buffer under SEATPORT_ASSEMBLY octets */
+	SEATPORT_RECEIVER_BAD = 11,   /* refused: receiving record outside its ranges */
+	SEATPORT_TOO_SHORT = 12,      /* refused: under SEATPORT_MFRAME_MIN octets */
+	SEATPORT_TOO_LONG = 13,       /* refused: over SEATPORT_MFRAME_MAX octets */
+	SEATPORT_PREAMBLE_BAD = 14,   /* refused: one of places 0 to 5 is not 55 */
+	SEATPORT_DELIMITER_BAD = 15,  /* refused; detail: the least number of bits to any of the eleven delimiters */
+	SEATPORT_DELIMITER_AT = 16,   /* refused: delimiter out of place */
+	SEATPORT_FRAGMENT_BAD = 17,   /* refused: unknown fragment code */
+	SEATPORT_EXPRESS_DAMAGED = 20, /* dropped: express, FCS wrong */
+	SEATPORT_ORDER_DAMAGED = 21,  /* dropped: V or R, mCRC wrong */
+	SEATPORT_NO_ASSEMBLY = 22,    /* dropped: continuation, none in assembly */
+	SEATPORT_COUNT_OTHER = 23,    /* dropped, assembly abandoned: frame or fragment count not the expected */
+	SEATPORT_OVERFLOW = 24,       /* dropped, assembly abandoned: octets kept plus this data over SEATPORT_BODY_MAX */
+	SEATPORT_DAMAGED = 25         /* dropped, assembly abandoned: last four octets neither FCS nor mCRC */
+};
+
+/* What the receiving side keeps between calls, beside the assembly buffer. The counters go on from 4,294,967,295 to 0. */
+struct seatport_receiver {
+	uint32_t assembling;       /* a frame is in assembly; if not, the next four are 0 */
+	uint32_t frame;            /* 0 to 3: its frame count */
+	uint32_t fragment;         /* 0 to 3: the fragment count expected next */
+	uint32_t kept;             /* its octets in the buffer, 60 to 1,518 */
+	uint32_t crc;              /* running CRC, the register before the complement */
+	uint32_t assembly_errors;  /* assemblies abandoned, and damaged starts */
+	uint32_t delimiter_errors; /* answers 15, 16, 17 and 22 */
+	uint32_t assembled;        /* frames delivered that took two mFrames or more */
+	uint32_t fragments;        /* continuations kept or completing */
+};
+
+/* One mFrame as it came, from its first preamble octet to its last check octet. Keep the buffer as it is left until the
+ * next call; once a body is delivered from it, its octets are yours. Octets past those kept are never written. Returns a
+ * number of enum seatport_answer. */
+uint32_t seatport_receive(struct seatport_receiver *receiver, const uint8_t *mframe, uint64_t length, uint8_t *buffer,
+			  uint64_t room, uint32_t *detail);
+
+/* A part of an mFrame: it starts at this place and has this many octets. */
+struct seatport_part {
+	uint32_t start;
+	uint32_t length;
+};
+
+/* Where the body of an express mFrame is; both 0 if seatport_receive would not answer 0 with a fresh record. */
+void seatport_express_body(const uint8_t *mframe, uint64_t length, struct seatport_part *body);
+
+/* ---- Link verification ---------------------------------------------------------------------------------------------- */
+
+enum seatport_phase { SEATPORT_OFF = 0, SEATPORT_TRYING = 1, SEATPORT_VERIFIED = 2, SEATPORT_FAILED = 3 };
+
+enum seatport_event {
+	SEATPORT_ENABLE = 0,
+	SEATPORT_DISABLE = 1,
+	SEATPORT_LINK_FAILED = 2,
+	SEATPORT_HEARD_RESPOND = 3, /* answer 4 of seatport_receive */
+	SEATPORT_HEARD_VERIFY = 4,  /* answer 3 of seatport_receive */
+	SEATPORT_RESPONSE_SENT = 5,
+	SEATPORT_MILLISECOND = 6
+};
+
+/* What seatport_event returns. */
+enum seatport_stepped {
+	SEATPORT_STEPPED = 0,
+	SEATPORT_LINK_BAD = 40 /* record outside its ranges, or no such event: nothing changed */
+};
+
+struct seatport_link {
+	uint32_t phase;   /* enum seatport_phase */
+	uint32_t attempt; /* in trying 1 to 3, else 0 */
+	uint32_t left;    /* in trying the milliseconds left, 1 to 10, else 0 */
+	uint32_t owed;    /* a response is owed: send an R, then tell SEATPORT_RESPONSE_SENT */
+};
+
+/* One event. *ordered becomes 1 if a V is to be sent now, else 0. Returns 0 or 40. */
+uint32_t seatport_step(struct seatport_link *link, uint32_t event, uint32_t *ordered);
+
+/* ---- House trace ---------------------------------------------------------------------------------------------------- */
+
+/* What seatport_trace returns. */
+enum seatport_traced {
+	SEATPORT_RECORD = 0,
+	SEATPORT_END = 1,          /* no octet is left */
+	SEATPORT_HEADER_CUT = 50,  /* fewer than the four octets of a header */
+	SEATPORT_CONTENT_LONG = 51, /* length over 1,600 */
+	SEATPORT_KIND_UNKNOWN = 52, /* kind not 1 */
+	SEATPORT_CONTENT_CUT = 53  /* fewer octets than the length says */
+};
+
+/* A record of a trace: where its content starts and how long it is, and where the next record starts. All are 0 where there
+ * is no record. */
+struct seatport_content {
+	uint32_t start;
+	uint32_t length;
+	uint32_t next;
+};
+
+/* The first record of a trace, or of what is left of one:
+ *     for (; seatport_trace(at, left, &c) == SEATPORT_RECORD; at += c.next, left -= c.next)
+ *             listen(at + c.start, c.length);
+ */
+uint32_t seatport_trace(const uint8_t *trace, uint64_t length, struct seatport_content *content);
+
+/* The structs are words and nothing else. */
+typedef char seatport_written_is_2_words[sizeof(struct seatport_written) == 2 * 4 ? 1 : -1];
+typedef char seatport_sender_is_7_words[sizeof(struct seatport_sender) == 7 * 4 ? 1 : -1];
+typedef char seatport_receiver_is_9_words[sizeof(struct seatport_receiver) == 9 * 4 ? 1 : -1];
+typedef char seatport_part_is_2_words[sizeof(struct seatport_part) == 2 * 4 ? 1 : -1];
+typedef char seatport_link_is_4_words[sizeof(struct seatport_link) == 4 * 4 ? 1 : -1];
+typedef char seatport_content_is_3_words[sizeof(struct seatport_content) == 3 * 4 ? 1 : -1];
+
+#ifdef __cplusplus
+}
+#endif
+
+#endif

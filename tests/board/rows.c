@@ -1,0 +1,238 @@
+#include "rows.h"
+
+#include <string.h>
+
+#include "plain.h"
+#include "seatport.h"
+
+enum { PRESS = 60, PHOTOGRAPH = 1518, CUT = 760 };
+
+static uint8_t press[PRESS], photograph[PHOTOGRAPH];
+
+/* What the row calls with, and where the two leave what they made. */
+static uint8_t mframe[SEATPORT_MFRAME_MAX];
+static uint32_t length;
+static const uint8_t *body;
+static uint32_t body_length;
+static uint64_t ask;
+static struct plain_sender sender_before;
+static struct plain_receiver receiver_before;
+
+static uint8_t port_memory[SEATPORT_MFRAME_MAX], plain_memory[SEATPORT_MFRAME_MAX];
+static struct seatport_sender port_sender;
+static struct plain_sender plain_sender;
+static struct seatport_receiver port_receiver;
+static struct plain_receiver plain_receiver;
+static struct seatport_written port_written;
+static struct plain_written plain_written;
+static uint32_t port_detail, plain_detail, port_answer, plain_answer;
+
+static void clear(void)
+{
+	for (uint32_t i = 0; i < PRESS; i++)
+		press[i] = (uint8_t)(3 * i + 1);
+	for (uint32_t i = 0; i < PHOTOGRAPH; i++)
+		photograph[i] = (uint8_t)(i * i / 7 + i);
+	memset(port_memory, 0xa5, sizeof port_memory);
+	memset(plain_memory, 0xa5, sizeof plain_memory);
+	memset(&sender_before, 0, sizeof sender_before);
+	memset(&receiver_before, 0, sizeof receiver_before);
+	memset(&port_written, 0, sizeof port_written);
+	memset(&plain_written, 0, sizeof plain_written);
+	memset(&port_sender, 0, sizeof port_sender);
+	memset(&plain_sender, 0, sizeof plain_sender);
+	memset(&port_receiver, 0, sizeof port_receiver);
+	memset(&plain_receiver, 0, sizeof plain_receiver);
+	port_detail = plain_detail = 0;
+	sender_before.active = 1;
+	body = photograph;
+	body_length = PHOTOGRAPH;
+	ask = SEATPORT_NO_ASK;
+}
+
+int row_agrees(void)
+{
+	return port_answer == plain_answer && port_detail == plain_detail &&
+	       memcmp(port_memory, plain_memory, sizeof port_memory) == 0 &&
+	       memcmp(&port_sender, &plain_sender, sizeof port_sender) == 0 &&
+	       memcmp(&port_receiver, &plain_receiver, sizeof port_receiver) == 0 &&
+	       memcmp(&port_written, &plain_written, sizeof port_written) == 0;
+}
+
+/* Receiving */
+
+static void no_receiving(void)
+{
+	memcpy(&port_receiver, &receiver_before, sizeof port_receiver);
+}
+
+static void port_receives(void)
+{
+	memcpy(&port_receiver, &receiver_before, sizeof port_receiver);
+	port_answer = seatport_receive(&port_receiver, mframe, length, port_memory, sizeof port_memory, &port_detail);
+}
+
+static void plain_receives(void)
+{
+	memcpy(&plain_receiver, &receiver_before, sizeof plain_receiver);
+	plain_answer = (uint32_t)plain_receive(&plain_receiver, mframe, length, plain_memory, sizeof plain_memory, &plain_detail);
+}
+
+static void express(const uint8_t *octets, uint32_t n)
+{
+	struct plain_written w;
+	clear();
+	plain_express(octets, n, mframe, sizeof mframe, &w);
+	length = w.length;
+}
+
+static void express_short(void)
+{
+	express(press, PRESS);
+}
+
+static void express_long(void)
+{
+	express(photograph, PHOTOGRAPH);
+}
+
+static void damaged_delimiter(void)
+{
+	express_short();
+	mframe[7] ^= 1;
+}
+
+/* The next mFrame of the photograph, asked to be cut as soon as may be after 64 * (1 + extra) octets, or whole. */
+static void next_mframe(uint32_t extra, bool asked)
+{
+	struct plain_written w;
+	sender_before.extra = extra;
+	plain_preemptable(&sender_before, photograph, PHOTOGRAPH, asked, 0, mframe, sizeof mframe, &w);
+	length = w.length;
+}
+
+static void start(uint32_t extra, bool asked)
+{
+	clear();
+	next_mframe(extra, asked);
+}
+
+static void start_64(void)
+{
+	start(0, true);
+}
+
+static void start_256(void)
+{
+	start(3, true);
+}
+
+static void start_1518(void)
+{
+	start(0, false);
+}
+
+/* Behind a start of 64 octets. */
+static void continuation(uint32_t extra, bool asked)
+{
+	start_64();
+	plain_receive(&receiver_before, mframe, length, plain_memory, sizeof plain_memory, &plain_detail);
+	memcpy(port_memory, plain_memory, sizeof port_memory);
+	next_mframe(extra, asked);
+}
+
+static void continuation_64(void)
+{
+	continuation(0, true);
+}
+
+static void continuation_256(void)
+{
+	continuation(3, true);
+}
+
+static void continuation_1454(void)
+{
+	continuation(0, false);
+}
+
+/* Sending */
+
+static void nothing(void)
+{
+}
+
+static void port_sends_express(void)
+{
+	port_answer = seatport_express(body, body_length, port_memory, sizeof port_memory, &port_written);
+}
+
+static void plain_sends_express(void)
+{
+	plain_answer = (uint32_t)plain_express(body, body_length, plain_memory, sizeof plain_memory, &plain_written);
+}
+
+static void no_sending(void)
+{
+	memcpy(&port_sender, &sender_before, sizeof port_sender);
+}
+
+static void port_sends(void)
+{
+	memcpy(&port_sender, &sender_before, sizeof port_sender);
+	port_answer = seatport_preemptable(&port_sender, body, body_length, ask, port_memory, sizeof port_memory, &port_written);
+}
+
+static void plain_sends(void)
+{
+	memcpy(&plain_sender, &sender_before, sizeof plain_sender);
+	plain_answer = (uint32_t)plain_preemptable(&plain_sender, body, body_length, ask != SEATPORT_NO_ASK, ask, plain_memory,
+						   sizeof plain_memory, &plain_written);
+}
+
+static void press_sent(void)
+{
+	clear();
+	body = press;
+	body_length = PRESS;
+}
+
+static void press_asked(void)
+{
+	press_sent();
+	ask = 0;
+}
+
+static void photograph_cut(void)
+{
+	clear();
+	ask = CUT;
+}
+
+static void photograph_rest(void)
+{
+	clear();
+	sender_before.next = 1;
+	sender_before.length = PHOTOGRAPH;
+	sender_before.sent = CUT;
+}
+
+const struct row rows[] = {
+	{ "express 72 received", PRESS, express_short, no_receiving, port_receives, plain_receives },
+	{ "express 1,530 received", PHOTOGRAPH, express_long, no_receiving, port_receives, plain_receives },
+	{ "start of 64 received", 64, start_64, no_receiving, port_receives, plain_receives },
+	{ "start of 256 received", 256, start_256, no_receiving, port_receives, plain_receives },
+	{ "start of 1,518 received", PHOTOGRAPH, start_1518, no_receiving, port_receives, plain_receives },
+	{ "continuation of 64 received", 64, continuation_64, no_receiving, port_receives, plain_receives },
+	{ "continuation of 256 received", 256, continuation_256, no_receiving, port_receives, plain_receives },
+	{ "continuation of 1,454 received", 1454, continuation_1454, no_receiving, port_receives, plain_receives },
+	{ "damaged delimiter received", 0, damaged_delimiter, no_receiving, port_receives, plain_receives },
+	{ "press sent express", PRESS, press_sent, nothing, port_sends_express, plain_sends_express },
+	{ "press sent preemptable, asked", PRESS, press_asked, no_sending, port_sends, plain_sends },
+	{ "photograph sent express", PHOTOGRAPH, clear, nothing, port_sends_express, plain_sends_express },
+	{ "photograph sent whole", PHOTOGRAPH, clear, no_sending, port_sends, plain_sends },
+	{ "photograph sent, cut at 760", CUT, photograph_cut, no_sending, port_sends, plain_sends },
+	{ "photograph sent, the rest", PHOTOGRAPH, photograph_rest, no_sending, port_sends, plain_sends },
+};
+
+const unsigned row_count = sizeof rows / sizeof rows[0];

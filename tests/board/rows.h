@@ -1,0 +1,22 @@
+/* The calls that the board and the benchmark measure: each row is one call of the port and the same call of plain.c. */
+#ifndef ROWS_H
+#define ROWS_H
+
+#include <stdint.h>
+
+struct row {
+	const char *name;
+	uint32_t octets;       /* data octets that the call sums and copies */
+	void (*prepare)(void); /* makes the row's mFrame and records */
+	void (*nothing)(void); /* what port and plain do besides the call */
+	void (*port)(void);
+	void (*plain)(void);
+};
+
+extern const struct row rows[];
+extern const unsigned row_count;
+
+/* Whether port and plain gave the same answer, record and octets when the row was last run. */
+int row_agrees(void);
+
+#endif

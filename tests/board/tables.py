@@ -1,0 +1,143 @@
+#!/usr/bin/env python3
+"""tables.py FOLDER: the tables of docs/BOARD.md from what tests/board/run made there.
+
+seatport.o gives code, tables and stack by function, plain.o the same in plain C, rows the instructions that QEMU counted.
+Ends with status 1 where a goal is missed.
+"""
+
+import sys
+from pathlib import Path
+
+sys.path.insert(0, str(Path(__file__).resolve().parents[1] / "c"))
+from elf import Object
+
+FUNCTION = 2
+CALLS = {10, 30, 51, 102}  # R_ARM_THM_CALL, _JUMP24, _JUMP19, _JUMP11: all by which Thumb code goes to another function
+
+# The goals.
+MEMORY = 12 * 1024
+STACK = 1024
+LONG, LONG_RATIO, SHORT_RATIO = 256, 0.75, 1.25
+WIRE = 10_000_000
+CLOCK, CYCLES = 48_000_000, 2
+
+missed = []
+
+
+def goal(name, value, limit, unit=""):
+    met = value <= limit
+    if not met:
+        missed.append(name)
+    print(f"goal {'met' if met else 'MISSED'}: {name} {value:,}{unit}, at most {limit:,}{unit}")
+
+
+def table(head, lines):
+    lines = [[str(x) for x in line] for line in lines]
+    wide = [max(len(line[i]) for line in [head] + lines) for i in range(len(head))]
+    def row(cells):
+        return "| " + " | ".join(c.ljust(w) if i == 0 else c.rjust(w) for i, (c, w) in enumerate(zip(cells, wide))) + " |"
+    print(row(head))
+    print("|" + "|".join(("-" * (w + 1) + ("-" if i == 0 else ":")) for i, w in enumerate(wide)) + "|")
+    for line in lines:
+        print(row(line))
+    print()
+
+
+def leb128(octets, at):
+    value = shift = 0
+    while True:
+        value |= (octets[at] & 127) << shift
+        if octets[at] < 128:
+            return value
+        at, shift = at + 1, shift + 7
+
+
+class Code:
+    """The functions of an object, each in a section of its own: octets, stack frame, and whom it calls."""
+
+    def __init__(self, path):
+        self.object = Object(Path(path).read_bytes())
+        sections, symbols = self.object.sections, self.object.symbols
+        name = {s.section: s.name for s in symbols if s.kind == FUNCTION}
+        self.size = {name[i]: s.size for i, s in enumerate(sections) if s.code and i in name}
+        self.frame = {name[s.link]: leb128(s.octets, 4) for s in sections if s.name == ".stack_sizes" and s.link in name}
+        self.calls = {n: set() for n in self.size}
+        for i, section in enumerate(sections):
+            if i in name:
+                for r in section.relocations:
+                    symbol = symbols[r.symbol]
+                    if r.kind in CALLS:
+                        self.calls[name[i]].add(symbol.name or name[symbol.section])
+                    elif symbol.kind == FUNCTION:
+                        sys.exit(f"{name[i]} takes the address of {symbol.name}: who calls it is not known")
+        self.tables = {s.name: s.size for s in sections if s.read_only and s.name.startswith(".rodata") and s.size}
+        self.writable = sum(s.size for s in sections if s.writable)
+        self.exported = sorted(s.name for s in symbols if s.kind == FUNCTION and s.name.startswith(("seatport_", "plain_")))
+
+    def octets(self):
+        return sum(self.size.values()) + sum(self.tables.values())
+
+
+def depth(name, codes, way=()):
+    """The most stack below and with a function: frames summed along the calls. No function calls itself."""
+    if name in way:
+        sys.exit(f"{name} calls itself")
+    code = next((c for c in codes if name in c.frame), None)
+    if code is None:
+        sys.exit(f"no frame is known of {name}")
+    return code.frame[name] + max((depth(n, codes, way + (name,)) for n in code.calls[name]), default=0)
+
+
+def main():
+    made = Path(sys.argv[1])
+    port, plain, library = (Code(made / f"{name}.o") for name in ("seatport", "plain", "library"))
+
+    print("\nCode and read-only tables, octets\n")
+    lines = sorted(([n, f"{s:,}"] for n, s in port.size.items()), key=lambda l: (-int(l[1].replace(",", "")), l[0]))
+    lines += [[f"table {n.removeprefix('.rodata').lstrip('.')}", f"{s:,}"] for n, s in sorted(port.tables.items(), key=lambda t: -t[1])]
+    table(["function", "octets"], lines + [["in all", f"{port.octets():,}"], ["plain C in all", f"{plain.octets():,}"]])
+    called = sorted(set().union(*(port.calls.values())) - set(port.size))
+    if called:
+        print(f"Of the C library the port calls {', '.join(called)}.")
+    goal("code and tables", port.octets(), MEMORY)
+    goal("working memory of its own", port.writable, 0)
+
+    print("\nMost stack of each call, octets, frames summed along its calls\n")
+    deepest = {n: depth(n, [port, library]) for n in port.exported}
+    beside = {n: depth(n, [plain, library]) for n in plain.exported}
+    twin = {"seatport_step": "plain_event"}
+    table(["call", "port", "plain C"],
+          [[n, deepest[n], beside[twin.get(n, n.replace("seatport", "plain"))]] for n in port.exported])
+    goal("stack", max(deepest.values()), STACK)
+
+    rows = made / "rows"
+    if rows.exists():
+        print("\nInstructions of one call\n")
+        lines, taken = [], {}
+        for line in rows.read_text().splitlines():
+            name, octets, ours, theirs, *more = line.split("|")
+            if more:
+                sys.exit(f"{name}: port and plain C {more[0]}")
+            octets, ours, theirs = int(octets), int(ours), int(theirs)
+            taken[name] = ours
+            limit = LONG_RATIO if octets >= LONG else SHORT_RATIO
+            if ours > limit * theirs:
+                missed.append(name)
+            lines.append([name, f"{octets:,}", f"{ours:,}", f"{theirs:,}", f"{ours / theirs:.2f}", f"{limit:.2f}"])
+        table(["call", "data octets", "port", "plain C", "ratio", "goal"], lines)
+        both = taken["express 1,530 received"] + taken["photograph sent express"]
+        wire = 1530 * 8 / WIRE * 1000
+        time = both * CYCLES / CLOCK * 1000
+        print(f"1,530 octets received and 1,530 sent: {both:,} instructions, {time:.3f} ms at {CLOCK // 1_000_000} MHz and "
+              f"{CYCLES} cycles each; the wire takes {wire:.3f} ms for one. Margin {wire - time:.3f} ms, {100 * (1 - time / wire):.0f} %.")
+        if time > wire:
+            missed.append("1,530 octets both ways")
+    if missed:
+        print(f"Goals missed: {'; '.join(missed)}.")
+    else:
+        print("All goals met." if rows.exists() else "All goals met but for instructions, which were not counted.")
+    sys.exit(1 if missed else 0)
+
+
+if __name__ == "__main__":
+    main()

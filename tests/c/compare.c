@@ -1,0 +1,434 @@
+/* Holds the port, through its C boundary, against plain.c on random and damaged inputs: what is returned, every word of the
+ * records and every octet of the lent memory, with octets behind it that nobody lent. The inputs are the same on every run.
+ * Prints how often each number was returned, and fails if the two ever differ or a number was never reached. */
+#include "plain.h"
+#include "seatport.h"
+
+#include <stdio.h>
+#include <stdlib.h>
+#include <string.h>
+
+enum { SENDS = 20000, RECEIVES = 40000, STEPS = 20000, TRACES = 10000, MEMORY = 2048, BEHIND = 64 };
+
+static unsigned counts[64];
+static const char *call;
+static unsigned turn;
+
+static void fail(const char *what)
+{
+	printf("compare: %s, turn %u: %s\n", call, turn, what);
+	exit(1);
+}
+
+static void same(const void *a, const void *b, size_t n, const char *what)
+{
+	if (memcmp(a, b, n) != 0)
+		fail(what);
+}
+
+static void answered(uint32_t port, int plain)
+{
+	if (port != (uint32_t)plain)
+		fail("another number is returned");
+	if (port < sizeof counts / sizeof counts[0])
+		counts[port]++;
+}
+
+/* Every number of the list was returned, and no other. */
+static void reached(const char *name, const unsigned *numbers, size_t n)
+{
+	unsigned known = 0, all = 0;
+	printf("%-12s", name);
+	for (size_t i = 0; i < n; i++) {
+		printf(" %u:%u", numbers[i], counts[numbers[i]]);
+		known += counts[numbers[i]];
+		if (counts[numbers[i]] == 0)
+			fail("a number was never returned");
+	}
+	putchar('\n');
+	for (size_t i = 0; i < sizeof counts / sizeof counts[0]; i++)
+		all += counts[i];
+	if (known != all)
+		fail("a number that the call does not have");
+	memset(counts, 0, sizeof counts);
+}
+
+/* Numbers that never change (xorshift, 64 bits). */
+static uint64_t state = 0x802003b200000001;
+
+static uint32_t chance(uint32_t n)
+{
+	state ^= state << 13;
+	state ^= state >> 7;
+	state ^= state << 17;
+	return (uint32_t)((state >> 32) % n);
+}
+
+static uint32_t word(void)
+{
+	uint32_t high = chance(0x10000);
+	return high << 16 | chance(0x10000);
+}
+
+static uint32_t between(uint32_t least, uint32_t most)
+{
+	return least + chance(most - least + 1);
+}
+
+static bool one_in(uint32_t n)
+{
+	return chance(n) == 0;
+}
+
+static void fill(uint8_t *octets, size_t n)
+{
+	for (size_t i = 0; i < n; i++)
+		octets[i] = (uint8_t)chance(256);
+}
+
+/* A number near one of the limits, or anywhere. */
+static uint32_t near(uint32_t limit, uint32_t anywhere)
+{
+	return one_in(3) ? chance(anywhere) : limit + chance(3) - (limit == 0 ? 0 : 1);
+}
+
+/* A word that a field might hold wrongly. */
+static uint32_t odd_word(void)
+{
+	static const uint32_t odd[] = { 0, 1, 2, 3, 4, 10, 11, 59, 60, 61, 255, 256, 257, 1457, 1458, 1459, 1518, 1519, 0x80000000, 0xffffffff };
+	return one_in(4) ? word() : odd[chance(sizeof odd / sizeof odd[0])];
+}
+
+/* The memory that is lent to each of the two. */
+static uint8_t port_memory[MEMORY + BEHIND], plain_memory[MEMORY + BEHIND];
+
+static void lend(void)
+{
+	fill(plain_memory, sizeof plain_memory);
+	memcpy(port_memory, plain_memory, sizeof port_memory);
+}
+
+static void same_memory(void)
+{
+	same(port_memory, plain_memory, sizeof port_memory, "other octets in lent memory, or behind it");
+}
+
+/* Sending */
+
+static uint64_t some_ask(void)
+{
+	switch (chance(6)) {
+	case 0:
+		return 0;
+	case 1:
+		return between(1, 200);
+	case 2:
+		return between(1380, 1530);
+	case 3:
+		return (uint64_t)word() << 32 | word();
+	default:
+		return chance(1530);
+	}
+}
+
+static uint64_t some_room(uint32_t least)
+{
+	return one_in(20) ? near(least, MEMORY) : one_in(2) ? least : between(least, MEMORY);
+}
+
+static uint32_t some_body(void)
+{
+	switch (chance(5)) {
+	case 0:
+		return between(58, 62);
+	case 1:
+		return between(1516, 1520);
+	case 2:
+		return between(60, 320);
+	default:
+		return between(60, 1518);
+	}
+}
+
+static void no_record(uint32_t which)
+{
+	static uint8_t body[MEMORY];
+	struct plain_written expected = { 0, 0 };
+	struct seatport_written written = { 7, 7 };
+	uint32_t n = some_body();
+	uint64_t room = some_room(SEATPORT_OUTPUT);
+	fill(body, n);
+	lend();
+	if (which == 0) {
+		call = "express";
+		answered(seatport_express(body, n, port_memory, room, &written), plain_express(body, n, plain_memory, (size_t)room, &expected));
+	} else if (which == 1) {
+		call = "verify";
+		answered(seatport_verify(port_memory, room, &written), plain_verify(plain_memory, (size_t)room, &expected));
+	} else {
+		call = "respond";
+		answered(seatport_respond(port_memory, room, &written), plain_respond(plain_memory, (size_t)room, &expected));
+	}
+	same(&written, &expected, sizeof written, "something else is said to be written");
+	same_memory();
+}
+
+static void send_all(void)
+{
+	static const unsigned numbers[] = { 0, 30, 31, 32, 33, 34 };
+	static uint8_t body[MEMORY];
+	struct plain_sender plain = { 0, 0, 0, 0, 0, 0, 0 };
+	uint32_t n = 60;
+	for (turn = 0; turn < SENDS; turn++) {
+		if (one_in(5)) {
+			no_record(chance(3));
+			continue;
+		}
+		call = "preemptable";
+		struct plain_sender before = plain;
+		if (plain.length == 0 || one_in(40)) {
+			n = some_body();
+			fill(body, n);
+		}
+		if (one_in(8)) {
+			plain.active = chance(4) != 0;
+			plain.hold = one_in(4);
+			plain.extra = chance(4);
+		}
+		if (one_in(16)) {
+			plain.length = between(118, 1519);
+			plain.sent = between(59, plain.length);
+			plain.fragment = chance(4);
+			n = plain.length;
+			fill(body, n);
+		}
+		if (one_in(12))
+			((uint32_t *)&plain)[chance(7)] = odd_word();
+		uint64_t ask = one_in(4) ? SEATPORT_NO_ASK : some_ask();
+		uint64_t room = some_room(SEATPORT_OUTPUT);
+		struct seatport_sender port;
+		struct plain_written expected = { 0, 0 };
+		struct seatport_written written = { 7, 7 };
+		memcpy(&port, &plain, sizeof port);
+		lend();
+		int refusal = plain_preemptable(&plain, body, n, ask != SEATPORT_NO_ASK, ask, plain_memory, (size_t)room, &expected);
+		answered(seatport_preemptable(&port, body, n, ask, port_memory, room, &written), refusal);
+		same(&port, &plain, sizeof port, "another sending record");
+		same(&written, &expected, sizeof written, "something else is said to be written");
+		same_memory();
+		if (refusal != 0)
+			plain = before;
+	}
+	reached("sending", numbers, sizeof numbers / sizeof numbers[0]);
+}
+
+/* Receiving */
+
+static uint8_t mframe[MEMORY];
+static uint32_t length;
+
+static uint32_t crc_over(uint32_t crc, const uint8_t *octets, size_t n)
+{
+	for (size_t i = 0; i < n; i++) {
+		crc ^= octets[i];
+		for (int bit = 0; bit < 8; bit++)
+			crc = crc >> 1 ^ (crc & 1 ? 0xedb88320 : 0);
+	}
+	return crc;
+}
+
+/* A continuation that fits a record, or nearly so. */
+static void fitting(const struct plain_receiver *r)
+{
+	static const uint8_t continuations[4] = { 0x61, 0x52, 0x9e, 0x2a };
+	static const uint8_t fragments[4] = { 0xe6, 0x4c, 0x7f, 0xb3 };
+	uint32_t room = r->kept < 1458 ? 1518 - r->kept : 60;
+	uint32_t n = one_in(3) ? between(room - (room > 60), room + 1) : one_in(4) ? between(60, 1518) : between(60, room);
+	memset(mframe, 0x55, 6);
+	mframe[6] = continuations[(r->frame + one_in(20)) % 4];
+	mframe[7] = fragments[(r->fragment + one_in(20)) % 4];
+	fill(mframe + 8, n);
+	uint32_t check = ~crc_over(r->crc, mframe + 8, n) ^ (one_in(2) ? 0xffff0000 : 0);
+	for (unsigned i = 0; i < 4; i++)
+		mframe[8 + n + i] = (uint8_t)(check >> 8 * i);
+	length = n + 12;
+}
+
+/* The next mFrame of an exchange. */
+static void exchanged(struct plain_sender *s, uint8_t *body, uint32_t *n)
+{
+	struct plain_written w = { 0, 0 };
+	uint32_t which = chance(20);
+	if (which < 3) {
+		static uint8_t express[MEMORY];
+		uint32_t m = one_in(2) ? 60 : between(60, 1518);
+		fill(express, m);
+		plain_express(express, m, mframe, sizeof mframe, &w);
+	} else if (which == 3) {
+		plain_verify(mframe, sizeof mframe, &w);
+	} else if (which == 4) {
+		plain_respond(mframe, sizeof mframe, &w);
+	} else {
+		if (s->length == 0) {
+			*n = between(60, 1518);
+			fill(body, *n);
+		}
+		s->extra = chance(4);
+		plain_preemptable(s, body, *n, !one_in(3), chance(600), mframe, sizeof mframe, &w);
+	}
+	length = w.length;
+}
+
+static void damage(void)
+{
+	static const uint8_t eleven[] = { 0xd5, 0xe6, 0x4c, 0x7f, 0xb3, 0x61, 0x52, 0x9e, 0x2a, 0x07, 0x19 };
+	switch (chance(8)) {
+	case 0:
+		mframe[chance(length)] ^= (uint8_t)(1 << chance(8));
+		break;
+	case 1:
+		mframe[chance(8)] ^= (uint8_t)(1 << chance(8));
+		break;
+	case 2:
+		mframe[6 + chance(2)] = eleven[chance(11)];
+		break;
+	case 3:
+		mframe[6 + chance(2)] = (uint8_t)chance(256);
+		break;
+	case 4:
+		mframe[length - 1 - chance(4)] ^= (uint8_t)between(1, 255);
+		break;
+	case 5:
+		length = near(one_in(2) ? 72 : 1530, MEMORY);
+		break;
+	case 6:
+		fill(mframe, length);
+		break;
+	default:
+		mframe[chance(8)] = 0x55;
+		break;
+	}
+}
+
+static void receive_all(void)
+{
+	static const unsigned numbers[] = { 0, 1, 2, 3, 4, 10, 11, 12, 13, 14, 15, 16, 17, 20, 21, 22, 23, 24, 25 };
+	static uint8_t body[MEMORY];
+	struct plain_sender sender = { 1, 0, 0, 0, 0, 0, 0 };
+	struct plain_receiver plain = { 0, 0, 0, 0, 0, 0, 0, 0, 0 };
+	struct seatport_receiver port;
+	uint32_t n = 0, bodies = 0;
+	call = "receive";
+	lend();
+	for (turn = 0; turn < RECEIVES; turn++) {
+		struct plain_receiver before = plain;
+		bool broken = one_in(25);
+		if (plain.assembling && one_in(4))
+			fitting(&plain);
+		else
+			exchanged(&sender, body, &n);
+		if (one_in(3))
+			damage();
+		if (one_in(200))
+			plain.assembly_errors = plain.delimiter_errors = plain.assembled = plain.fragments = 0xffffffff;
+		if (broken)
+			((uint32_t *)&plain)[chance(5)] = odd_word();
+		uint64_t room = some_room(SEATPORT_ASSEMBLY);
+		uint32_t plain_detail = 7, port_detail = 7;
+		memcpy(&port, &plain, sizeof port);
+		answered(seatport_receive(&port, mframe, length, port_memory, room, &port_detail),
+			 plain_receive(&plain, mframe, length, plain_memory, (size_t)room, &plain_detail));
+		same(&port, &plain, sizeof port, "another receiving record");
+		same(&port_detail, &plain_detail, sizeof port_detail, "another detail");
+		same_memory();
+
+		struct seatport_part part = { 7, 7 };
+		size_t start, m = plain_express_body(mframe, length, &start);
+		seatport_express_body(mframe, length, &part);
+		if (part.start != start || part.length != m)
+			fail("another express body");
+		bodies += m != 0;
+		if (broken)
+			plain = before;
+	}
+	reached("receiving", numbers, sizeof numbers / sizeof numbers[0]);
+	printf("%-12s %u of %u\n", "express body", (unsigned)bodies, (unsigned)RECEIVES);
+	if (bodies == 0)
+		fail("no express body");
+}
+
+/* Verification */
+
+static void step_all(void)
+{
+	static const unsigned numbers[] = { 0, 40 };
+	struct plain_link plain = { 0, 0, 0, 0 };
+	struct seatport_link port;
+	unsigned orders = 0, phases[4] = { 0, 0, 0, 0 };
+	call = "step";
+	for (turn = 0; turn < STEPS; turn++) {
+		struct plain_link before = plain;
+		uint32_t event = one_in(30) ? odd_word() : one_in(8) ? chance(7) : PLAIN_MILLISECOND;
+		uint32_t port_ordered = 7;
+		bool ordered = false, broken = one_in(10);
+		if (broken)
+			((uint32_t *)&plain)[chance(4)] = odd_word();
+		memcpy(&port, &plain, sizeof port);
+		answered(seatport_step(&port, event, &port_ordered), plain_event(&plain, event, &ordered));
+		same(&port, &plain, sizeof port, "another verification record");
+		if (port_ordered != (ordered ? 1 : 0))
+			fail("V ordered by one alone");
+		orders += ordered;
+		if (broken)
+			plain = before;
+		phases[plain.phase]++;
+	}
+	reached("verification", numbers, sizeof numbers / sizeof numbers[0]);
+	printf("%-12s %u ordered, off %u, trying %u, verified %u, failed %u\n", "", orders, phases[0], phases[1], phases[2], phases[3]);
+	if (orders == 0 || phases[1] == 0 || phases[2] == 0 || phases[3] == 0)
+		fail("a phase was never reached");
+}
+
+/* Trace */
+
+static void trace_all(void)
+{
+	static const unsigned numbers[] = { 0, 1, 50, 51, 52, 53 };
+	static uint8_t trace[4 * MEMORY];
+	call = "trace";
+	for (turn = 0; turn < TRACES; turn++) {
+		size_t n = 0, at = 0;
+		while (n < 2 * MEMORY && !one_in(4)) {
+			uint32_t m = one_in(6) ? near(1600, 3000) : chance(200);
+			fill(trace + n, 4 + m);
+			trace[n] = (uint8_t)m;
+			trace[n + 1] = (uint8_t)(m >> 8);
+			trace[n + 2] = one_in(30) ? (uint8_t)chance(256) : 1;
+			trace[n + 3] = one_in(30) ? (uint8_t)chance(256) : 0;
+			n += 4 + m;
+		}
+		if (n > 0 && one_in(2))
+			n -= chance(n < 6 ? (uint32_t)n : 6);
+		for (;;) {
+			struct seatport_content port = { 7, 7, 7 };
+			struct plain_content plain = { at, 0, at };
+			uint32_t number = seatport_trace(trace + at, n - at, &port);
+			answered(number, plain_trace(trace, n, at, &plain));
+			if (port.start != plain.start - at || port.length != plain.length || port.next != plain.next - at)
+				fail("another content");
+			if (number != SEATPORT_RECORD)
+				break;
+			at = plain.next;
+		}
+	}
+	reached("trace", numbers, sizeof numbers / sizeof numbers[0]);
+}
+
+int main(void)
+{
+	send_all();
+	receive_all();
+	step_all();
+	trace_all();
+	return 0;
+}
