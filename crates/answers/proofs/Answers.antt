@@ -5,7 +5,7 @@ use mathlib.Core.Bool.{Bool, cond}
 use Prim.Native.Nat.{ℕ}
 use lib.Dec.{eqb, ltb}
 use Rattle.mframe.specs.declared.Fault.the-variants.{Short, Long, Preamble, Delimiter, Place, Fragment}
-use Rattle.answers.specs.declared.Said.{Said}
+use Rattle.mframe.proofs.Answers.{faultOf}
 use Rattle.answers.specs.declared.Refusal.{Refusal}
 use Rattle.answers.specs.declared.Refusal.the-variants.{Buffer, Record as Range, Head}
 use Rattle.answers.specs.declared.Drop.{Drop}
@@ -14,15 +14,12 @@ use Rattle.answers.specs.declared.Answer.{Answer}
 use Rattle.answers.specs.declared.Answer.the-variants as A
 use Rattle.answers.specs.declared.Counters.{Counters}
 use Rattle.answers.specs.declared.Record.{Record}
-use Rattle.answers.specs.Answers.{said}
-use Rattle.answers.specs.Records.{erred, strayed, joined, completed, inRange}
+use Rattle.answers.specs.Answers.{Said, said}
+use Rattle.answers.specs.Records.{erred, strayed, joined, completed, shut, fresh, inRange}
 
 -- the answer, from what it is told as
 refusal : ℕ → ℕ → Refusal
-refusal k bits =
-    cond (eqb k 10) Buffer
-    (cond (eqb k 11) Range
-    (Head (cond (eqb k 12) Short (cond (eqb k 13) Long (cond (eqb k 14) Preamble (cond (eqb k 15) (Delimiter bits) (cond (eqb k 16) Place Fragment)))))))
+refusal k bits = cond (eqb k 10) Buffer (cond (eqb k 11) Range (Head (faultOf k bits)))
 
 drop : ℕ → Drop
 drop k =
@@ -39,7 +36,7 @@ unsaid s =
     (cond (ltb (s .number) 20) (A.Refused (refusal (s .number) (s .detail))) (A.Dropped (drop (s .number))))))))
 
 back : (a : Answer) → unsaid (said a) ≡ a
-unfolding unsaid refusal drop
+unfolding unsaid refusal drop faultOf
 back (A.Express n) = refl
 back (A.Delivered n) = refl
 back (A.Kept n) = refl
@@ -63,9 +60,19 @@ back (A.Dropped D.Damaged) = refl
 pub said-one : {a b : Answer} → said a ≡ said b → a ≡ b
 said-one {a} {b} e = sym (back a) ∙ ap unsaid e ∙ back b
 
--- said
-pub said-once : (a : Answer) {x y : Said} → x ≡ said a → y ≡ said a → x ≡ y
-said-once a p q = p ∙ sym q
+-- number and detail
+pub number-once : (a : Answer) {x y : ℕ} → x ≡ said a .number → y ≡ said a .number → x ≡ y
+number-once a p q = p ∙ sym q
+
+pub detail-once : (a : Answer) {x y : ℕ} → x ≡ said a .detail → y ≡ said a .detail → x ≡ y
+detail-once a p q = p ∙ sym q
+
+-- shut and fresh
+pub shut-once : (c : Counters) {x y : Record} → x ≡ shut c → y ≡ shut c → x ≡ y
+shut-once c p q = p ∙ sym q
+
+pub fresh-once : {x y : Record} → x ≡ fresh → y ≡ fresh → x ≡ y
+fresh-once p q = p ∙ sym q
 
 -- in_range
 pub in-range-once : (r : Record) {x y : Bool} → x ≡ inRange r → y ≡ inRange r → x ≡ y

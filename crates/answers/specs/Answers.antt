@@ -1,9 +1,7 @@
 -- The numbered answers of document 01, "Receiving", a case a line. The detail is "body length for 0 and 1, octets kept for 2, bits for 15,
 -- else 0". Assumes nothing.
 use Prim.Native.Nat.{ℕ}
-use Rattle.mframe.specs.declared.Fault.{Fault}
-use Rattle.mframe.specs.declared.Fault.the-variants.{Short, Long, Preamble, Delimiter, Place, Fragment}
-use Rattle.answers.specs.declared.Said.{Said}
+use Rattle.mframe.specs.Head.{faultNumber, faultDetail}
 use Rattle.answers.specs.declared.Refusal.{Refusal}
 use Rattle.answers.specs.declared.Refusal.the-variants as R
 use Rattle.answers.specs.declared.Drop.{Drop}
@@ -11,29 +9,38 @@ use Rattle.answers.specs.declared.Drop.the-variants as D
 use Rattle.answers.specs.declared.Answer.{Answer}
 use Rattle.answers.specs.declared.Answer.the-variants as A
 
+-- an answer as the paper gives it
+pub record Said : Type 0 where
+  pub number : ℕ
+  pub detail : ℕ
+
 abbrev pub says : ℕ → ℕ → Said
 says number detail = record { number = number; detail = detail }
 
-abbrev pub faulted : Fault → Said
-faulted Short = says 12 0
-faulted Long = says 13 0
-faulted Preamble = says 14 0
-faulted (Delimiter bits) = says 15 bits
-faulted Place = says 16 0
-faulted Fragment = says 17 0
+-- 12 to 17 are those of the head
+abbrev pub refusalNumber : Refusal → ℕ
+refusalNumber R.Buffer = 10
+refusalNumber R.Record = 11
+refusalNumber (R.Head fault) = faultNumber fault
+
+abbrev pub refusalDetail : Refusal → ℕ
+refusalDetail R.Buffer = 0
+refusalDetail R.Record = 0
+refusalDetail (R.Head fault) = faultDetail fault
+
+abbrev pub dropNumber : Drop → ℕ
+dropNumber D.Express = 20
+dropNumber D.Heard = 21
+dropNumber D.Closed = 22
+dropNumber D.Count = 23
+dropNumber D.Over = 24
+dropNumber D.Damaged = 25
 
 abbrev pub refused : Refusal → Said
-refused R.Buffer = says 10 0
-refused R.Record = says 11 0
-refused (R.Head fault) = faulted fault
+refused why = says (refusalNumber why) (refusalDetail why)
 
 abbrev pub dropped : Drop → Said
-dropped D.Express = says 20 0
-dropped D.Heard = says 21 0
-dropped D.Closed = says 22 0
-dropped D.Count = says 23 0
-dropped D.Over = says 24 0
-dropped D.Damaged = says 25 0
+dropped why = says (dropNumber why) 0
 
 abbrev pub said : Answer → Said
 said (A.Express n) = says 0 n

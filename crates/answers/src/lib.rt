@@ -2,10 +2,12 @@
 // answers with what the paper says for each.
 use codes::FragmentCount;
 use codes::FrameCount;
+use mframe::BODY_LEAST;
+use mframe::BODY_MOST;
 use mframe::Fault;
 ghost use mathlib.Core.Path.{_≡_};
-ghost use Rattle.answers.specs.Answers.{faulted, refused, dropped, said};
-ghost use Rattle.answers.specs.Records.{erred, strayed, joined, completed, inRange};
+ghost use Rattle.answers.specs.Answers.{refusalNumber, refusalDetail, dropNumber, said};
+ghost use Rattle.answers.specs.Records.{erred, strayed, joined, completed, shut, fresh, inRange};
 
 // In document 01's order: assembly errors, delimiter errors, frames assembled, fragments.
 pub struct Counters {
@@ -83,20 +85,27 @@ pub struct Record {
     pub counters: Counters,
 }
 
-// The least body that a fragment leaves, and the longest.
-const LEAST: usize = 60;
-
-const MOST: usize = 1518;
-
 impl Record {
-    pub const FRESH: Record = Record {
-        assembling: false,
-        frame: FrameCount::ZERO,
-        fragment: FragmentCount::ZERO,
-        kept: 0,
-        running: 0,
-        counters: Counters::ZERO,
-    };
+    // Not assembling.
+    pub fn shut(counters: Counters) -> Record
+        ensures { λ r. ⌜ r ≡ shut counters ⌝ }
+    {
+        Record {
+            assembling: false,
+            frame: FrameCount::ZERO,
+            fragment: FragmentCount::ZERO,
+            kept: 0,
+            running: 0,
+            counters,
+        }
+    }
+
+    // All 0, not assembling.
+    pub fn fresh() -> Record
+        ensures { λ r. ⌜ r ≡ fresh ⌝ }
+    {
+        Record::shut(Counters::ZERO)
+    }
 
     // Test 11.
     pub fn in_range(self) -> bool
@@ -114,10 +123,10 @@ impl Record {
             if 3 < g {
                 return false;
             }
-            if kept < LEAST {
+            if kept < BODY_LEAST {
                 return false;
             }
-            return kept <= MOST;
+            return kept <= BODY_MOST;
         }
         if f != 0 {
             return false;
@@ -166,78 +175,70 @@ pub struct Received {
     pub after: Record,
 }
 
-// An answer as the paper gives it. The detail is a body's length for 0 and 1, the octets kept for 2, the bits for 15, else 0.
-pub struct Said {
-    pub number: u32,
-    pub detail: usize,
-}
+impl Refusal {
+    fn number(self) -> u32
+        ensures { λ n. ⌜ n ≡ refusalNumber self ⌝ }
+    {
+        match self {
+            Refusal::Buffer => 10,
+            Refusal::Record => 11,
+            Refusal::Head(fault) => fault.number(),
+        }
+    }
 
-fn plain(number: u32) -> Said
-    ensures { λ s. ⌜ s ≡ record { number = number; detail = 0 } ⌝ }
-{
-    Said { number, detail: 0 }
-}
-
-fn faulted(fault: Fault) -> Said
-    ensures { λ s. ⌜ s ≡ faulted fault ⌝ }
-{
-    match fault {
-        Fault::Short => plain(12),
-        Fault::Long => plain(13),
-        Fault::Preamble => plain(14),
-        Fault::Delimiter(bits) => Said {
-            number: 15,
-            detail: bits as usize,
-        },
-        Fault::Place => plain(16),
-        Fault::Fragment => plain(17),
+    fn detail(self) -> usize
+        ensures { λ n. ⌜ n ≡ refusalDetail self ⌝ }
+    {
+        match self {
+            Refusal::Buffer => 0,
+            Refusal::Record => 0,
+            Refusal::Head(fault) => fault.detail(),
+        }
     }
 }
 
-fn refused(why: Refusal) -> Said
-    ensures { λ s. ⌜ s ≡ refused why ⌝ }
-{
-    match why {
-        Refusal::Buffer => plain(10),
-        Refusal::Record => plain(11),
-        Refusal::Head(fault) => faulted(fault),
-    }
-}
-
-fn dropped(why: Drop) -> Said
-    ensures { λ s. ⌜ s ≡ dropped why ⌝ }
-{
-    match why {
-        Drop::Express => plain(20),
-        Drop::Heard => plain(21),
-        Drop::Closed => plain(22),
-        Drop::Count => plain(23),
-        Drop::Over => plain(24),
-        Drop::Damaged => plain(25),
+impl Drop {
+    fn number(self) -> u32
+        ensures { λ n. ⌜ n ≡ dropNumber self ⌝ }
+    {
+        match self {
+            Drop::Express => 20,
+            Drop::Heard => 21,
+            Drop::Closed => 22,
+            Drop::Count => 23,
+            Drop::Over => 24,
+            Drop::Damaged => 25,
+        }
     }
 }
 
 impl Answer {
-    pub fn said(self) -> Said
-        ensures { λ s. ⌜ s ≡ said self ⌝ }
+    pub fn number(self) -> u32
+        ensures { λ n. ⌜ n ≡ said self .number ⌝ }
     {
         match self {
-            Answer::Express(n) => Said {
-                number: 0,
-                detail: n,
-            },
-            Answer::Delivered(n) => Said {
-                number: 1,
-                detail: n,
-            },
-            Answer::Kept(n) => Said {
-                number: 2,
-                detail: n,
-            },
-            Answer::VerifyHeard => plain(3),
-            Answer::RespondHeard => plain(4),
-            Answer::Refused(why) => refused(why),
-            Answer::Dropped(why) => dropped(why),
+            Answer::Express(_) => 0,
+            Answer::Delivered(_) => 1,
+            Answer::Kept(_) => 2,
+            Answer::VerifyHeard => 3,
+            Answer::RespondHeard => 4,
+            Answer::Refused(why) => why.number(),
+            Answer::Dropped(why) => why.number(),
+        }
+    }
+
+    // A body's length for 0 and 1, the octets kept for 2, the bits for 15, else 0.
+    pub fn detail(self) -> usize
+        ensures { λ n. ⌜ n ≡ said self .detail ⌝ }
+    {
+        match self {
+            Answer::Express(n) => n,
+            Answer::Delivered(n) => n,
+            Answer::Kept(n) => n,
+            Answer::VerifyHeard => 0,
+            Answer::RespondHeard => 0,
+            Answer::Refused(why) => why.detail(),
+            Answer::Dropped(_) => 0,
         }
     }
 }

@@ -1,7 +1,6 @@
 // What an mFrame of known kind does to the receiving record (document 01, "Receiving" and "Counters"). All of it is by value: memory is
 // lent to the crate above.
 use answers::Answer;
-use answers::Counters;
 use answers::Drop;
 use answers::Received;
 use answers::Record;
@@ -9,20 +8,16 @@ use answers::Refusal;
 use codes::FragmentCount;
 use codes::FrameCount;
 use crc::Ending;
+use mframe::BODY_MOST;
+use mframe::CHECK;
 use mframe::Kind;
 ghost use mathlib.Core.Path.{_≡_};
 ghost use mathlib.Core.Bool.{not, _&&_};
 ghost use Prim.Native.Nat.{_+_, _-_};
 ghost use lib.Dec.{eqb};
 ghost use Rattle.answers.specs.Answers.{said, dropped, refused};
-ghost use Rattle.answers.specs.Records.{shut};
 ghost use Rattle.assembly.specs.Steps.{told, delimiterError, unchanged, abandoned, expressOf, heardOf, one, startOf, endedOf, continuationOf, stepOf};
 ghost use Rattle.assembly.specs.Tests.{Assembled, other, Fits};
-
-// The longest body, and the octets of a check.
-const MOST: usize = 1518;
-
-const CHECK: usize = 4;
 
 fn delimiter_error(number: u32) -> bool
     ensures { λ r. ⌜ r ≡ delimiterError number ⌝ }
@@ -40,8 +35,7 @@ fn delimiter_error(number: u32) -> bool
 fn unchanged(answer: Answer, record: Record) -> Received
     ensures { λ r. ⌜ told r ≡ unchanged (said answer) «record» ⌝ }
 {
-    let said = answer.said();
-    if delimiter_error(said.number) {
+    if delimiter_error(answer.number()) {
         let counters = record.counters;
         return Received {
             answer,
@@ -57,16 +51,6 @@ fn unchanged(answer: Answer, record: Record) -> Received
     }
 }
 
-// Not assembling.
-fn shut(counters: Counters) -> Record
-    ensures { λ r. ⌜ r ≡ shut counters ⌝ }
-{
-    Record {
-        counters,
-        ..Record::FRESH
-    }
-}
-
 // A drop that abandons the assembly.
 fn abandoned(why: Drop, record: Record) -> Received
     ensures { λ r. ⌜ told r ≡ abandoned (dropped why) «record» ⌝ }
@@ -74,7 +58,7 @@ fn abandoned(why: Drop, record: Record) -> Received
     let counters = record.counters;
     Received {
         answer: Answer::Dropped(why),
-        after: shut(counters.erred(1)),
+        after: Record::shut(counters.erred(1)),
     }
 }
 
@@ -82,9 +66,18 @@ fn express(ending: Ending, record: Record) -> Received
     ensures { λ r. ⌜ told r ≡ expressOf ending «record» ⌝ }
 {
     match ending {
-        Ending::Done(n) => unchanged(Answer::Express(n), record),
-        Ending::More(_, _) => unchanged(Answer::Dropped(Drop::Express), record),
-        Ending::Damaged => unchanged(Answer::Dropped(Drop::Express), record),
+        Ending::Done(n) => Received {
+            answer: Answer::Express(n),
+            after: record,
+        },
+        Ending::More(_, _) => Received {
+            answer: Answer::Dropped(Drop::Express),
+            after: record,
+        },
+        Ending::Damaged => Received {
+            answer: Answer::Dropped(Drop::Express),
+            after: record,
+        },
     }
 }
 
@@ -115,7 +108,7 @@ fn start(frame: FrameCount, ending: Ending, record: Record) -> Received
     match ending {
         Ending::Done(n) => Received {
             answer: Answer::Delivered(n),
-            after: shut(counters.erred(lost)),
+            after: Record::shut(counters.erred(lost)),
         },
         Ending::More(n, running) => Received {
             answer: Answer::Kept(n),
@@ -130,7 +123,7 @@ fn start(frame: FrameCount, ending: Ending, record: Record) -> Received
         },
         Ending::Damaged => Received {
             answer: Answer::Dropped(Drop::Damaged),
-            after: shut(counters.erred(lost + 1)),
+            after: Record::shut(counters.erred(lost + 1)),
         },
     }
 }
@@ -179,14 +172,14 @@ enum Room {
 fn room_for(kept: usize, octets: usize) -> Room
     ensures { λ r. ⌜ Fits (kept + (octets - 4)) r ⌝ }
 {
-    if MOST < kept {
+    if BODY_MOST < kept {
         return Room::Over;
     }
     if octets <= CHECK {
         return Room::Enough(kept);
     }
     let n = octets - CHECK;
-    if MOST - kept < n {
+    if BODY_MOST - kept < n {
         return Room::Over;
     }
     Room::Enough(kept + n)
@@ -202,7 +195,7 @@ fn ended(total: usize, ending: Ending, record: Record) -> Received
     match ending {
         Ending::Done(_) => Received {
             answer: Answer::Delivered(total),
-            after: shut(counters.completed()),
+            after: Record::shut(counters.completed()),
         },
         Ending::More(_, running) => Received {
             answer: Answer::Kept(total),

@@ -24,13 +24,12 @@ use Rattle.mframe.specs.declared.Kind.{Kind}
 use Rattle.mframe.specs.declared.Kind.the-variants as K
 use Rattle.mframe.proofs.Laws.{Counted}
 use Rattle.answers.specs.declared.Counters.{Counters}
-use Rattle.answers.specs.declared.Said.{Said}
 use Rattle.answers.specs.declared.Record.{Record}
-use Rattle.answers.specs.Answers.{says}
+use Rattle.answers.specs.Answers.{Said, says}
 use Rattle.answers.specs.Records.{strayed, shut, opened, counting, inRange}
 use Rattle.assembly.specs.Steps.{Step, unchanged, abandoned, expressOf, heardOf, startOf, endedOf, unexpected, totalOf, continuationOf, stepOf}
 use Rattle.receive.specs.Receive.{byHead, receivedOf, upTo, leftOf, dataIn, bufferOf}
-use Rattle.mframe.proofs.Heads.{Number, n12, n13, n14, n15, n16, n17, Good, head-good}
+use Rattle.mframe.proofs.Heads.{Refusal, n12, n13, n14, n15, n16, n17, Good, head-good}
 use Rattle.crc.proofs.Endings.{Ends, ends}
 
 -- an assembly that is open
@@ -121,21 +120,21 @@ stray-right : {r : Record} {b : List ℕ} → Right r b → Right (counting (str
 stray-right idle = idle
 stray-right (going w) = going w
 
-refused-right : {n : ℕ} (d : ℕ) {r : Record} {b : List ℕ} → Number n → Right r b
+refused-right : {n d : ℕ} {r : Record} {b : List ℕ} → Refusal n d → Right r b
     → Right (unchanged (says n d) r .after) (leftOf (says n d) [] b)
-refused-right d n12 w = w
-refused-right d n13 w = w
-refused-right d n14 w = w
-refused-right d n15 w = stray-right w
-refused-right d n16 w = stray-right w
-refused-right d n17 w = stray-right w
+refused-right n12 w = w
+refused-right n13 w = w
+refused-right n14 w = w
+refused-right (n15 bits h) w = stray-right w
+refused-right n16 w = stray-right w
+refused-right n17 w = stray-right w
 
 head-right : (m : List ℕ) {r : Record} {b : List ℕ} (h : Reading) → Good (length m) h → 1518 ≤ length b → Right r b
     → Right (byHead h m r .after) (leftOf (byHead h m r .said) (dataIn h m) b)
 head-right m (known kind place) g h w =
     let l : length (drop place m) ≡ length m - place = length-drop place m in
-    kind-right (drop place m) _ (omega arith) (omega arith) h kind (g .1 .1) w
-head-right m (refused n d) g h w = refused-right d g w
+    kind-right (drop place m) _ (omega arith) (omega arith) h kind (g .counted) w
+head-right m (refused n d) g h w = refused-right g w
 
 -- such a record is in range
 pub right-ranges : {r : Record} {b : List ℕ} → Right r b → inRange r ≡ true

@@ -17,13 +17,12 @@ use Rattle.mframe.specs.Head.{Reading, known, refused, headOf}
 use Rattle.mframe.specs.declared.Kind.{Kind}
 use Rattle.mframe.specs.declared.Kind.the-variants as K
 use Rattle.answers.specs.declared.Counters.{Counters}
-use Rattle.answers.specs.declared.Said.{Said}
 use Rattle.answers.specs.declared.Record.{Record}
-use Rattle.answers.specs.Answers.{says}
+use Rattle.answers.specs.Answers.{Said, says}
 use Rattle.answers.specs.Records.{erred, strayed, joined, completed, opened, inRange}
 use Rattle.assembly.specs.Steps.{Step, one, unchanged, abandoned, expressOf, heardOf, startOf, endedOf, unexpected, totalOf, continuationOf, stepOf}
 use Rattle.receive.specs.Receive.{byHead, receivedOf}
-use Rattle.mframe.proofs.Heads.{Number, n12, n13, n14, n15, n16, n17, Good, head-good}
+use Rattle.mframe.proofs.Heads.{Refusal, n12, n13, n14, n15, n16, n17, Good, head-good}
 use Rattle.histories.specs.History.{Call, callOf, started, delivered, abandoning, damagedStart, misdelimited, completing, continuing}
 use Rattle.histories.proofs.Right.{Right, idle, going, right-ranges}
 
@@ -125,17 +124,17 @@ module _ (place : ℕ) where
       (record { balance = omega arith; moved = moved-none (r .counters) })
 
 -- a head that is refused
-refused-tally : {n : ℕ} (d : ℕ) (r : Record) → Number n → Tally (refused n d) r (unchanged (says n d) r)
-refused-tally d r n12 = record { balance = omega arith; moved = moved-none (r .counters) }
-refused-tally d r n13 = record { balance = omega arith; moved = moved-none (r .counters) }
-refused-tally d r n14 = record { balance = omega arith; moved = moved-none (r .counters) }
-refused-tally d r n15 = record { balance = omega arith; moved = moved-strayed (r .counters) }
-refused-tally d r n16 = record { balance = omega arith; moved = moved-strayed (r .counters) }
-refused-tally d r n17 = record { balance = omega arith; moved = moved-strayed (r .counters) }
+refused-tally : {n d : ℕ} (r : Record) → Refusal n d → Tally (refused n d) r (unchanged (says n d) r)
+refused-tally r n12 = record { balance = omega arith; moved = moved-none (r .counters) }
+refused-tally r n13 = record { balance = omega arith; moved = moved-none (r .counters) }
+refused-tally r n14 = record { balance = omega arith; moved = moved-none (r .counters) }
+refused-tally r (n15 bits h) = record { balance = omega arith; moved = moved-strayed (r .counters) }
+refused-tally r n16 = record { balance = omega arith; moved = moved-strayed (r .counters) }
+refused-tally r n17 = record { balance = omega arith; moved = moved-strayed (r .counters) }
 
 head-tally : (m : List ℕ) (h : Reading) {r : Record} {b : List ℕ} → Good (length m) h → Right r b → Tally h r (byHead h m r)
 head-tally m (known kind place) g w = kind-tally place kind (drop place m) w
-head-tally m (refused n d) {r} g w = refused-tally d r g
+head-tally m (refused n d) {r} g w = refused-tally r g
 
 pub call-tally : (m : List ℕ) {r : Record} {b : List ℕ} → Right r b → Tally (headOf m) r (receivedOf m r (length b))
 unfolding receivedOf

@@ -11,14 +11,13 @@ use Rattle.crc.specs.Crc.{allOnes}
 use Rattle.crc.specs.Judge.{endingOf}
 use Rattle.mframe.specs.Head.{Reading, known, refused, headOf}
 use Rattle.mframe.specs.declared.Kind.the-variants as K
-use Rattle.answers.specs.declared.Said.{Said}
 use Rattle.answers.specs.declared.Counters.{Counters}
 use Rattle.answers.specs.declared.Record.{Record}
-use Rattle.answers.specs.Answers.{says}
+use Rattle.answers.specs.Answers.{Said, says}
 use Rattle.answers.specs.Records.{fresh, counting, inRange}
 use Rattle.assembly.specs.Steps.{Step, unchanged}
 use Rattle.receive.specs.Receive.{byHead, receivedOf, dataIn, bufferOf, bodyOf}
-use Rattle.mframe.proofs.Heads.{Number, n12, n13, n14, n15, n16, n17, Good, head-good}
+use Rattle.mframe.proofs.Heads.{Refusal, n12, n13, n14, n15, n16, n17, Good, head-good}
 use Rattle.crc.proofs.Endings.{ends}
 use Rattle.histories.specs.History.{isStart, refusal}
 use Rattle.link.specs.Frames.{ifSo}
@@ -31,18 +30,18 @@ behind : (m : List ℕ) (place : ℕ) → length m ≤ place + 1522 → length (
 behind m place h = omega (arith, length-drop place m)
 
 -- a head that is refused has nothing written
-not-written : {n : ℕ} → Number n → (eqb n 1 ≡ false) × (eqb n 2 ≡ false)
+not-written : {n d : ℕ} → Refusal n d → (eqb n 1 ≡ false) × (eqb n 2 ≡ false)
 not-written n12 = (refl, refl)
 not-written n13 = (refl, refl)
 not-written n14 = (refl, refl)
-not-written n15 = (refl, refl)
+not-written (n15 bits h) = (refl, refl)
 not-written n16 = (refl, refl)
 not-written n17 = (refl, refl)
 
 -- any octets, given to two receivers that are alike
 module _ (m : List ℕ) (r : Record) (y : Counters) (B C : List ℕ) (long : length C ≡ length B) (same : take (r .kept) C ≡ take (r .kept) B) where
   head-match : 1518 ≤ length B → (h : Reading) → Good (length m) h → Match (dataIn h m) B C (byHead h m r) (byHead h m (counting y r))
-  head-match room (known kind place) g = step-match (drop place m) B C long room r y same (behind m place (g .1 .0)) kind
+  head-match room (known kind place) g = step-match (drop place m) B C long room r y same (behind m place (g .most)) kind
   head-match room (refused n detail) g = let w = not-written g in unchanged-match [] B C long r y (says n detail) same (w .0) (w .1)
 
   received-match : Match (dataIn (headOf m) m) B C (receivedOf m r (length B)) (receivedOf m (counting y r) (length C))
@@ -84,7 +83,7 @@ module _ (r : Record) (B m C : List ℕ) (long : length C ≡ length B) where
 
   started : 1518 ≤ length B → (h : Reading) → Good (length m) h → isStart h ≡ true → Match (dataIn h m) B C (byHead h m r) (byHead h m fresh)
   started room (known (K.Start f) place) g u =
-      start-match (drop place m) B C long room (behind m place (g .1 .0)) f r fresh (endingOf allOnes (drop place m)) (ends allOnes (drop place m))
+      start-match (drop place m) B C long room (behind m place (g .most)) f r fresh (endingOf allOnes (drop place m)) (ends allOnes (drop place m))
   started room (known K.Express place) g u = absurd (false≢true u)
   started room (known (K.Continuation f k) place) g u = absurd (false≢true u)
   started room (known K.Verify place) g u = absurd (false≢true u)

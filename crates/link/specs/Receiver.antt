@@ -5,7 +5,7 @@ use Prim.Native.Nat.{ℕ}
 use lib.Dec.{eqb}
 use lib.ListN.{length, take}
 use Rattle.mframe.specs.Head.{headOf}
-use Rattle.answers.specs.declared.Said.{Said}
+use Rattle.answers.specs.Answers.{Said}
 use Rattle.answers.specs.declared.Record.{Record}
 use Rattle.receive.specs.Receive.{receivedOf, bufferOf, bodyOf}
 use Rattle.histories.specs.History.{isStart, refusal}

@@ -10,7 +10,6 @@ use libc::STDIN_FILENO;
 use libc::STDOUT_FILENO;
 use trace::Cursor;
 use trace::Read;
-use trace::Refusal;
 ghost use Prim.Native.Nat.{_+_, _≤_};
 ghost use lib.ListN.{length};
 ghost use Rattle.lister.specs.Room.{Room};
@@ -38,15 +37,6 @@ enum Turn {
     Over(Standing),
     // The input could not be read or the listing not written; that was said.
     Failed,
-}
-
-fn number(refusal: Refusal) -> u64 {
-    match refusal {
-        Refusal::Header => 50,
-        Refusal::Length => 51,
-        Refusal::Kind => 52,
-        Refusal::Content => 53,
-    }
 }
 
 // Writes what waits.
@@ -151,7 +141,7 @@ fn read(s: Standing, window: &[u8], buffer: &mut [u8], out: &mut [u8]) -> Turn
             out,
         ),
         Read::End => Turn::Over(s),
-        Read::Refused(refusal) => stop(s, number(refusal), out),
+        Read::Refused(refusal) => stop(s, refusal.number() as u64, out),
     }
 }
 
@@ -205,17 +195,22 @@ fn last_turn(first: Standing, window: &mut [u8], buffer: &mut [u8], out: &mut [u
     Turn::Over(s)
 }
 
-fn list_all(window: &mut [u8], buffer: &mut [u8], out: &mut [u8])
-    requires { ⌜ 88 ≤ length (now out) ⌝ }
-{
-    let first = Standing {
-        record: Record::FRESH,
+// Before the first record: the receiver is fresh, and the title waits.
+fn beginning(title: usize) -> Standing {
+    Standing {
+        record: Record::fresh(),
         number: 1,
         from: 0,
         to: 0,
         ended: false,
-        waiting: listing::title(out, 0),
-    };
+        waiting: title,
+    }
+}
+
+fn list_all(window: &mut [u8], buffer: &mut [u8], out: &mut [u8])
+    requires { ⌜ 88 ≤ length (now out) ⌝ }
+{
+    let first = beginning(listing::title(out, 0));
     if let Turn::Over(last) = last_turn(first, window, buffer, out) {
         finish(last, out);
     }

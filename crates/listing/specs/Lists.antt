@@ -5,7 +5,7 @@ use mathlib.Core.List.{List}
 use Prim.Native.Nat.{ℕ}
 use lib.ListN.{length}
 use Rattle.text.specs.Text.{Put}
-use Rattle.answers.specs.declared.Said.{Said}
+use Rattle.answers.specs.Answers.{Said}
 use Rattle.answers.specs.declared.Record.{Record}
 use Rattle.receive.specs.Receive.{receivedOf, bufferOf}
 use Rattle.listing.specs.Lines.{recordLine}

@@ -80,8 +80,13 @@ pub fn list(
 {
     let got = receive::receive(content, record, buffer);
     let answer = got.answer;
-    let said = answer.said();
-    let next = record_line(number, said.number as u64, said.detail as u64, out, at);
+    let next = record_line(
+        number,
+        answer.number() as u64,
+        answer.detail() as u64,
+        out,
+        at,
+    );
     let after = got.after;
     Listed { after, next }
 }

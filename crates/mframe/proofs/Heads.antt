@@ -1,94 +1,81 @@
 -- What holds of the head of any octets: where it is known there is room for data and check octets, and the counts are under 4; where it is
--- refused the number is 12 to 17. Assumes nothing.
+-- refused the number is 12 to 17, and only 15 has a detail, of eight at most. Assumes nothing.
 use mathlib.Core.Path.{_≡_, refl}
 use mathlib.Core.Bool.{Bool, true, false, cond}
-use mathlib.Core.List.{List, [], _∷_}
-use Prim.Native.Nat.{ℕ, _+_, _≤_, _<_}
+use mathlib.Core.List.{List}
+use Prim.Native.Nat.{ℕ, _+_, _≤_}
 use native.Mathlib.Omega.{arith}
 use borrow.Author.Tests.{ltb-false}
 use lib.Dec.{eqb, ltb}
 use lib.ListN.{length, take, getD}
-use Rattle.codes.specs.Codes.{meaning, delimiterOf, fragmentOf}
+use Rattle.codes.specs.Codes.{delimiterOf, fragmentOf}
+use Rattle.codes.proofs.Sizes.{either, Small, delimiter-small, SmallFragment, fragment-small}
 use Rattle.codes.specs.declared.Delimiter.{Delimiter}
 use Rattle.codes.specs.declared.Delimiter.the-variants as D
 use Rattle.codes.specs.declared.Fragment.{Fragment}
 use Rattle.codes.specs.declared.Fragment.the-variants as F
 use Rattle.mframe.specs.Head.{Reading, known, refused, all55, sevenOf, sixOf, placedOf, headOf}
+use Rattle.mframe.specs.declared.Kind.{Kind}
+use Rattle.mframe.specs.declared.Kind.the-variants as K
 use Rattle.mframe.proofs.Laws.{Counted}
 
--- what holds of each meaning of a table, and of the other, holds of what an octet says
-abbrev All : {A : Type 0} → (A → Type 0) → List A → Type 0
-All P [] = Unit {0}
-All P (x ∷ xs) = P x × All P xs
+-- the numbers of a head's refusal, with their details
+pub data Refusal : (number detail : ℕ) → Type 0 where
+  n12 : Refusal 12 0
+  n13 : Refusal 13 0
+  n14 : Refusal 14 0
+  n15 : (bits : ℕ) → bits ≤ 8 → Refusal 15 bits
+  n16 : Refusal 16 0
+  n17 : Refusal 17 0
 
-either : {A : Type 0} (P : A → Type 0) (b : Bool) (x y : A) → P x → P y → P (cond b x y)
-either P true x y p q = p
-either P false x y p q = q
+pub detail-small : {number detail : ℕ} → Refusal number detail → detail ≤ 8
+detail-small n12 = omega arith
+detail-small n13 = omega arith
+detail-small n14 = omega arith
+detail-small (n15 bits h) = h
+detail-small n16 = omega arith
+detail-small n17 = omega arith
 
-meant : {A : Type 0} (P : A → Type 0) (x : ℕ) (cs : List ℕ) (ms : List A) (other : A) → All P ms → P other → P (meaning x cs ms other)
-unfolding meaning
-meant P x [] ms other ps p = p
-meant P x (c ∷ cs) [] other ps p = p
-meant P x (c ∷ cs) (m ∷ ms) other ps p = either P (eqb x c) m _ (ps .0) (meant P x cs ms other (ps .1) p)
+pub no-delivery : {number detail : ℕ} → Refusal number detail → eqb number 0 ≡ false
+no-delivery n12 = refl
+no-delivery n13 = refl
+no-delivery n14 = refl
+no-delivery (n15 bits h) = refl
+no-delivery n16 = refl
+no-delivery n17 = refl
 
--- the counts that an octet says
-abbrev FrameUnder : Delimiter → Type 0
-FrameUnder D.Express = Unit {0}
-FrameUnder (D.Start n) = n .0 < 4
-FrameUnder (D.Continuation n) = n .0 < 4
-FrameUnder D.Verify = Unit {0}
-FrameUnder D.Respond = Unit {0}
-FrameUnder (D.Unknown bits) = Unit {0}
-
-abbrev FragmentUnder : Fragment → Type 0
-FragmentUnder (F.Known n) = n .0 < 4
-FragmentUnder F.Unknown = Unit {0}
-
-frame-under : (x : ℕ) → FrameUnder (delimiterOf x)
-unfolding delimiterOf
-frame-under x =
-    let small : (0 < 4) × ((1 < 4) × ((2 < 4) × (3 < 4))) = (omega arith, (omega arith, (omega arith, omega arith))) in
-    meant FrameUnder x _ _ _
-    (tt, (small .0, (small .1 .0, (small .1 .1 .0, (small .1 .1 .1, (small .0, (small .1 .0, (small .1 .1 .0, (small .1 .1 .1, (tt, (tt, tt))))))))))) tt
-
-fragment-under : (x : ℕ) → FragmentUnder (fragmentOf x)
-unfolding fragmentOf
-fragment-under x = meant FragmentUnder x _ _ _ (omega arith, (omega arith, (omega arith, (omega arith, tt)))) tt
-
--- the numbers of a head's refusal
-pub data Number : ℕ → Type 0 where
-  n12 : Number 12
-  n13 : Number 13
-  n14 : Number 14
-  n15 : Number 15
-  n16 : Number 16
-  n17 : Number 17
+-- n octets with a known head: where the data begin there is room for the least data and check octets, and no more than the most
+pub record Roomy (n : ℕ) (kind : Kind) (place : ℕ) : Type 0 where
+  pub early : place ≤ 8
+  pub least : place + 64 ≤ n
+  pub most : n ≤ place + 1522
+  pub counted : Counted kind
 
 -- a head of n octets
 abbrev pub Good : ℕ → Reading → Type 0
-Good n (known kind place) = (place + 64 ≤ n) × ((n ≤ place + 1522) × Counted kind)
-Good n (refused number detail) = Number number
+Good n (known kind place) = Roomy n kind place
+Good n (refused number detail) = Refusal number detail
 
 module _ (n : ℕ) (low : 72 ≤ n) (high : n ≤ 1530) where
-  fits : (8 + 64 ≤ n) × (n ≤ 8 + 1522)
-  fits = (omega arith, omega arith)
+  roomy : {kind : Kind} → Counted kind → Roomy n kind 8
+  roomy u = record { early = omega arith; least = omega arith; most = omega arith; counted = u }
 
-  good-seven : (d : Delimiter) → FrameUnder d → Good n (sevenOf d)
-  good-seven D.Express u = (fits .0, (fits .1, tt))
-  good-seven (D.Start f) u = (fits .0, (fits .1, u))
+  good-seven : (d : Delimiter) → Small d → Good n (sevenOf d)
+  good-seven D.Express u = roomy {kind = K.Express} tt
+  good-seven (D.Start f) u = roomy {kind = K.Start f} u
   good-seven (D.Continuation f) u = n16
-  good-seven D.Verify u = (fits .0, (fits .1, tt))
-  good-seven D.Respond u = (fits .0, (fits .1, tt))
-  good-seven (D.Unknown bits) u = n15
+  good-seven D.Verify u = roomy {kind = K.Verify} tt
+  good-seven D.Respond u = roomy {kind = K.Respond} tt
+  good-seven (D.Unknown bits) u = n15 bits u
 
-  good-six : (d : Delimiter) (g : Fragment) → FrameUnder d → FragmentUnder g → Good n (sixOf d g)
+  good-six : (d : Delimiter) (g : Fragment) → Small d → SmallFragment g → Good n (sixOf d g)
   good-six D.Express g u v = n16
   good-six (D.Start f) g u v = n16
-  good-six (D.Continuation f) (F.Known k) u v = (fits .0, (fits .1, (u, v)))
+  good-six (D.Continuation f) (F.Known k) u v = roomy {kind = K.Continuation f k} (u, v)
   good-six (D.Continuation f) F.Unknown u v = n17
   good-six D.Verify g u v = n16
   good-six D.Respond g u v = n16
-  good-six (D.Unknown bits) g u v = n15
+  good-six (D.Unknown bits) g u v = n15 bits u
 
 pub head-good : (m : List ℕ) → Good (length m) (headOf m)
 unfolding headOf
@@ -105,6 +92,6 @@ head-good m = go (ltb (length m) 72) (ltb 1530 (length m)) refl refl
         let y : ℕ = getD m 7 0 in
         either (Good (length m)) (all55 (take 6 m)) (placedOf m) (refused 14 0)
         (either (Good (length m)) (eqb x 0x55) (sevenOf (delimiterOf y)) (sixOf (delimiterOf x) (fragmentOf y))
-        (good-seven (length m) low high (delimiterOf y) (frame-under y))
-        (good-six (length m) low high (delimiterOf x) (fragmentOf y) (frame-under x) (fragment-under y)))
+        (good-seven (length m) low high (delimiterOf y) (delimiter-small y))
+        (good-six (length m) low high (delimiterOf x) (fragmentOf y) (delimiter-small x) (fragment-small y)))
         n14

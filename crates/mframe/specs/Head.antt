@@ -22,17 +22,26 @@ pub data Reading : Type 0 where
   known : Kind → (place : ℕ) → Reading
   refused : (number detail : ℕ) → Reading
 
-abbrev pub refusal : Fault → Reading
-refusal Short = refused 12 0
-refusal Long = refused 13 0
-refusal Preamble = refused 14 0
-refusal (Unknown bits) = refused 15 bits
-refusal Place = refused 16 0
-refusal Code = refused 17 0
+abbrev pub faultNumber : Fault → ℕ
+faultNumber Short = 12
+faultNumber Long = 13
+faultNumber Preamble = 14
+faultNumber (Unknown bits) = 15
+faultNumber Place = 16
+faultNumber Code = 17
+
+-- 15 comes "with the least number of bits by which it differs from any of the eleven"
+abbrev pub faultDetail : Fault → ℕ
+faultDetail Short = 0
+faultDetail Long = 0
+faultDetail Preamble = 0
+faultDetail (Unknown bits) = bits
+faultDetail Place = 0
+faultDetail Code = 0
 
 abbrev pub reading : Head → Reading
 reading (Known kind place) = known kind place
-reading (Refused fault) = refusal fault
+reading (Refused fault) = refused (faultNumber fault) (faultDetail fault)
 
 -- 14 is "one of places 0 to 5 is not 55"
 unfoldable pub all55 : List ℕ → Bool

@@ -9,6 +9,22 @@ pub use write::express;
 pub use write::lay;
 pub use write::respond;
 pub use write::verify;
+ghost use mathlib.Core.Path.{_≡_};
+ghost use Rattle.mframe.specs.Head.{faultNumber, faultDetail};
+ghost use Rattle.mframe.specs.Sending.{number};
+
+// The least output buffer.
+pub const OUTPUT_LEAST: usize = 1530;
+
+// The least and the longest body.
+pub const BODY_LEAST: usize = 60;
+
+pub const BODY_MOST: usize = 1518;
+
+// The octets of a header, and of a check.
+pub const HEADER: usize = 8;
+
+pub const CHECK: usize = 4;
 
 pub enum Kind {
     Express,
@@ -27,6 +43,20 @@ pub enum Refusal {
     Hold,
 }
 
+impl Refusal {
+    pub fn number(self) -> u32
+        ensures { λ n. ⌜ n ≡ number self ⌝ }
+    {
+        match self {
+            Refusal::Output => 30,
+            Refusal::Record => 31,
+            Refusal::Body => 32,
+            Refusal::Length => 33,
+            Refusal::Hold => 34,
+        }
+    }
+}
+
 // What a sending call answers.
 pub enum Answer {
     Wrote { length: usize, done: bool },
@@ -41,6 +71,35 @@ pub enum Fault {
     Delimiter(u32),
     Place,
     Fragment,
+}
+
+impl Fault {
+    pub fn number(self) -> u32
+        ensures { λ n. ⌜ n ≡ faultNumber self ⌝ }
+    {
+        match self {
+            Fault::Short => 12,
+            Fault::Long => 13,
+            Fault::Preamble => 14,
+            Fault::Delimiter(_) => 15,
+            Fault::Place => 16,
+            Fault::Fragment => 17,
+        }
+    }
+
+    // The bits of an unknown delimiter, else 0.
+    pub fn detail(self) -> usize
+        ensures { λ n. ⌜ n ≡ faultDetail self ⌝ }
+    {
+        match self {
+            Fault::Short => 0,
+            Fault::Long => 0,
+            Fault::Preamble => 0,
+            Fault::Delimiter(bits) => bits as usize,
+            Fault::Place => 0,
+            Fault::Fragment => 0,
+        }
+    }
 }
 
 // What the head of an mFrame says: its kind and the place where the data begin, or why it is refused.

@@ -1,5 +1,6 @@
 // The head of any octets: the kind with its counts and where the data begin, or the refusal.
 use crate::Fault;
+use crate::HEADER;
 use crate::Head;
 use crate::Kind;
 use codes::Delimiter;
@@ -15,9 +16,6 @@ ghost use Rattle.mframe.specs.Head.{all55, reading, sevenOf, sixOf, code
 const LEAST: usize = 72;
 
 const MOST: usize = 1530;
-
-// Where the data begin.
-const DATA: usize = 8;
 
 // Whether the octets of places 0 to 5 are 55.
 fn preambled(mframe: &[u8]) -> bool
@@ -39,11 +37,11 @@ fn at_seven(octet: u8) -> Head
     ensures { λ r. ⌜ reading r ≡ sevenOf (delimiterOf octet) ⌝ }
 {
     match codes::delimiter_of(octet) {
-        Delimiter::Express => Head::Known(Kind::Express, DATA),
-        Delimiter::Start(frame) => Head::Known(Kind::Start(frame), DATA),
+        Delimiter::Express => Head::Known(Kind::Express, HEADER),
+        Delimiter::Start(frame) => Head::Known(Kind::Start(frame), HEADER),
         Delimiter::Continuation(_) => Head::Refused(Fault::Place),
-        Delimiter::Verify => Head::Known(Kind::Verify, DATA),
-        Delimiter::Respond => Head::Known(Kind::Respond, DATA),
+        Delimiter::Verify => Head::Known(Kind::Verify, HEADER),
+        Delimiter::Respond => Head::Known(Kind::Respond, HEADER),
         Delimiter::Unknown(bits) => Head::Refused(Fault::Delimiter(bits)),
     }
 }
@@ -53,7 +51,7 @@ fn coded(frame: FrameCount, octet: u8) -> Head
     ensures { λ r. ⌜ reading r ≡ codedOf frame (fragmentOf octet) ⌝ }
 {
     match codes::fragment_of(octet) {
-        Fragment::Known(fragment) => Head::Known(Kind::Continuation(frame, fragment), DATA),
+        Fragment::Known(fragment) => Head::Known(Kind::Continuation(frame, fragment), HEADER),
         Fragment::Unknown => Head::Refused(Fault::Fragment),
     }
 }

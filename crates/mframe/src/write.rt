@@ -1,6 +1,11 @@
 // An mFrame written whole into lent memory: header, data, check octets.
 use crate::Answer;
+use crate::BODY_LEAST;
+use crate::BODY_MOST;
+use crate::CHECK;
+use crate::HEADER;
 use crate::Kind;
+use crate::OUTPUT_LEAST;
 use crate::Refusal;
 ghost use mathlib.Core.Path.{_≡_};
 ghost use Prim.Native.Nat.{_≤_};
@@ -8,13 +13,6 @@ ghost use lib.ListN.{length};
 ghost use Rattle.mframe.specs.Octets.{afterSeven, afterSix, headerOf, mFrameOf};
 ghost use Rattle.mframe.specs.Sending.{Answered, Laid, expressOf, orderOf};
 ghost use Rattle.mframe.specs.declared.Kind.the-variants as Kinds;
-
-// The least output buffer, and the least and the greatest body.
-pub(crate) const OUTPUT: usize = 1530;
-
-pub(crate) const BODY_LEAST: usize = 60;
-
-pub(crate) const BODY_MOST: usize = 1518;
 
 fn after_seven(delimiter: u8) -> [u8; 8]
     ensures { λ h. ⌜ h ≡ afterSeven delimiter ⌝ }
@@ -45,18 +43,18 @@ pub fn lay(kind: Kind, part: &[u8], check: [u8; 4], out: &mut [u8]) -> usize
     requires { ⌜ (length (now part) ≤ 1518) × (1530 ≤ length (now out)) ⌝ }
     ensures { λ n. ⌜ Laid (mFrameOf kind (now (part .entry)) check) (now (out .entry)) n (now (out .exit)) ⌝ }
 {
-    let n = part.len();
+    let end = HEADER + part.len();
     octets::copy_into(&header(kind), out, 0);
-    octets::copy_into(part, out, 8);
-    octets::copy_into(&check, out, 8 + n);
-    12 + n
+    octets::copy_into(part, out, HEADER);
+    octets::copy_into(&check, out, end);
+    end + CHECK
 }
 
 // An express body: header, body, FCS.
 pub fn express(body: &[u8], out: &mut [u8]) -> Answer
     ensures { λ a. ⌜ Answered (expressOf (now (body .entry)) (length (now (out .entry)))) (now (out .entry)) a (now (out .exit)) ⌝ }
 {
-    if out.len() < OUTPUT {
+    if out.len() < OUTPUT_LEAST {
         return Answer::Refused(Refusal::Output);
     }
     let n = body.len();
@@ -75,7 +73,7 @@ pub fn express(body: &[u8], out: &mut [u8]) -> Answer
 fn order(kind: Kind, out: &mut [u8]) -> Answer
     ensures { λ a. ⌜ Answered (orderOf kind (length (now (out .entry)))) (now (out .entry)) a (now (out .exit)) ⌝ }
 {
-    if out.len() < OUTPUT {
+    if out.len() < OUTPUT_LEAST {
         return Answer::Refused(Refusal::Output);
     }
     let zeros = [0u8; 60];

@@ -1,4 +1,4 @@
--- Laws of the definitions: what a refused head does, and that data written end within the buffer.
+-- Laws of the definitions: that a refused head writes nothing, and that data written end within the buffer.
 -- Assumes nothing.
 use mathlib.Core.Path.{_≡_, refl, sym, _∙_}
 use mathlib.Core.Bool.{Bool, true, false, not, cond, false≢true}
@@ -15,41 +15,25 @@ use Rattle.crc.specs.Judge.{endingOf}
 use Rattle.crc.specs.declared.Ending.{Ending}
 use Rattle.crc.proofs.Endings.{Ends, ends}
 use Rattle.crc.specs.declared.Ending.the-variants.{Done, More, Damaged}
-use Rattle.mframe.specs.Head.{refusal}
+use Rattle.mframe.specs.Head.{faultNumber}
 use Rattle.mframe.specs.declared.Kind.{Kind}
 use Rattle.mframe.specs.declared.Kind.the-variants as K
 use Rattle.mframe.specs.declared.Fault.{Fault}
 use Rattle.mframe.specs.declared.Fault.the-variants.{Short, Long, Preamble, Delimiter, Place, Fragment}
 use Rattle.answers.specs.declared.Record.{Record}
-use Rattle.answers.specs.Answers.{says, faulted}
+use Rattle.answers.specs.Answers.{says}
 use Rattle.answers.specs.Records.{fresh}
 use Rattle.assembly.specs.Steps.{Step, unchanged, abandoned, expressOf, heardOf, startOf, endedOf, unexpected, totalOf, continuationOf, stepOf}
-use Rattle.receive.specs.Receive.{byHead, writes, dataIn}
+use Rattle.receive.specs.Receive.{writes}
 
--- a head that is refused
-pub refused-step : (fault : Fault) (m : List ℕ) (r : Record) → byHead (refusal fault) m r ≡ unchanged (faulted fault) r
-refused-step Short m r = refl
-refused-step Long m r = refl
-refused-step Preamble m r = refl
-refused-step (Delimiter bits) m r = refl
-refused-step Place m r = refl
-refused-step Fragment m r = refl
-
-pub refused-writes : (fault : Fault) → writes (faulted fault .number) ≡ false
+-- a head that is refused: its answer writes nothing, and is no delivery
+pub refused-writes : (fault : Fault) → writes (faultNumber fault) ≡ false
 refused-writes Short = refl
 refused-writes Long = refl
 refused-writes Preamble = refl
 refused-writes (Delimiter bits) = refl
 refused-writes Place = refl
 refused-writes Fragment = refl
-
-pub refused-body : (fault : Fault) (m : List ℕ) → cond (eqb (byHead (refusal fault) m fresh .said .number) 0) (dataIn (refusal fault) m) [] ≡ []
-refused-body Short m = refl
-refused-body Long m = refl
-refused-body Preamble m = refl
-refused-body (Delimiter bits) m = refl
-refused-body Place m = refl
-refused-body Fragment m = refl
 
 -- data that are written end behind their own number, within the longest body
 abbrev pub Within : List ℕ → Step → Type 0

@@ -12,20 +12,19 @@ use lib.ListN.{length, take, drop, length-drop}
 use lib.Seq.{length-take-le, take-all}
 use Rattle.octets.specs.Laid.{laid}
 use Rattle.crc.specs.Judge.{dataOf}
-use Rattle.mframe.specs.Head.{Reading, known, reading, headOf}
+use Rattle.mframe.specs.Head.{Reading, known, faultNumber, faultDetail, reading, headOf}
 use Rattle.mframe.specs.declared.Kind.{Kind}
 use Rattle.mframe.specs.declared.Fault.{Fault}
 use Rattle.mframe.specs.declared.Head.{Head}
 use Rattle.mframe.specs.declared.Head.the-variants.{Known, Refused}
-use Rattle.answers.specs.declared.Said.{Said}
 use Rattle.answers.specs.declared.Record.{Record}
 use Rattle.answers.specs.declared.Received.{Received}
-use Rattle.answers.specs.Answers.{says, faulted, said}
+use Rattle.answers.specs.Answers.{Said, says, said}
 use Rattle.answers.specs.Records.{fresh, inRange}
 use Rattle.assembly.specs.Steps.{Step, told, unchanged, stepOf}
 use Rattle.receive.specs.Receive.{byHead, receivedOf, upTo, writes, leftOf, dataIn, bufferOf, Answered, Taken, bodyOf}
 use Rattle.mframe.proofs.Heads.{Good, head-good}
-use Rattle.receive.proofs.Laws.{refused-step, refused-writes, refused-body, step-within}
+use Rattle.receive.proofs.Laws.{refused-writes, step-within}
 
 -- keep
 pub kept : (octets buffer : List ℕ) (end : ℕ) → laid buffer (end - (length octets - 4)) (take (length octets - 4 - 0) octets) ≡ upTo end (dataOf octets) buffer
@@ -34,23 +33,27 @@ kept octets buffer end =
     ap₂ (λ (k : ℕ) (l : List ℕ). laid buffer (end - k) l) (sym n) (ap (λ (k : ℕ). take k octets) (sub-zero (length octets - 4)))
 
 -- take
-module _ (kind : Kind) (octets : List ℕ) (r : Record) (b : List ℕ) (got : Received) {s : Said} {flag : Bool}
-    (decided : told got ≡ stepOf kind octets r) (tells : s ≡ said (got .answer)) (tested : flag ≡ writes (s .number)) where
-  is : s ≡ stepOf kind octets r .said
-  is = tells ∙ ap (λ (t : Step). t .said) decided
+module _ (kind : Kind) (octets : List ℕ) (r : Record) (b : List ℕ) (got : Received) {number : ℕ} {flag : Bool}
+    (decided : told got ≡ stepOf kind octets r) (numbered : number ≡ said (got .answer) .number) (tested : flag ≡ writes number) where
+  is : said (got .answer) ≡ stepOf kind octets r .said
+  is = ap (λ (t : Step). t .said) decided
 
-  left-is : (t : Bool) → flag ≡ t → cond t (upTo (s .detail) (dataOf octets) b) b ≡ leftOf (stepOf kind octets r .said) (dataOf octets) b
+  flag-is : flag ≡ writes (said (got .answer) .number)
+  flag-is = tested ∙ ap writes numbered
+
+  left-is : (t : Bool) → flag ≡ t → cond t (upTo (said (got .answer) .detail) (dataOf octets) b) b ≡ leftOf (stepOf kind octets r .said) (dataOf octets) b
   left-is t q =
-      ap (λ (x : Bool). cond x (upTo (s .detail) (dataOf octets) b) b) (sym q ∙ tested) ∙ ap (λ (x : Said). leftOf x (dataOf octets) b) is
-
-  pub wrote : flag ≡ true → {b′ : List ℕ} → b′ ≡ upTo (s .detail) (dataOf octets) b → Taken kind octets r b got b′
-  wrote q e = record { step = decided; left = e ∙ left-is true q }
+      ap (λ (x : Bool). cond x (upTo (said (got .answer) .detail) (dataOf octets) b) b) (sym q ∙ flag-is) ∙ ap (λ (x : Said). leftOf x (dataOf octets) b) is
 
   pub idle : flag ≡ false → Taken kind octets r b got b
   idle q = record { step = decided; left = left-is false q }
 
-  pub room : flag ≡ true → length octets ≤ 1522 → (length octets - 4 ≤ s .detail) × (s .detail ≤ 1518)
-  room q h = rw is (step-within octets r kind h (ap (λ (t : Said). writes (t .number)) (sym is) ∙ sym tested ∙ q))
+  module _ {end : ℕ} (detailed : end ≡ said (got .answer) .detail) (q : flag ≡ true) where
+    pub wrote : {b′ : List ℕ} → b′ ≡ upTo end (dataOf octets) b → Taken kind octets r b got b′
+    wrote e = record { step = decided; left = e ∙ ap (λ (n : ℕ). upTo n (dataOf octets) b) detailed ∙ left-is true q }
+
+    pub room : length octets ≤ 1522 → (length octets - 4 ≤ end) × (end ≤ 1518)
+    room h = rw (detailed, is) (step-within octets r kind h (ap (λ (t : Said). writes (t .number)) (sym is) ∙ sym flag-is ∙ q))
 
 -- a head that is known
 module _ (m : List ℕ) {h : Head} {kind : Kind} {place : ℕ} (read : reading h ≡ headOf m) (e : h ≡ Known kind place) where
@@ -58,7 +61,7 @@ module _ (m : List ℕ) {h : Head} {kind : Kind} {place : ℕ} (read : reading h
   knows = sym read ∙ ap reading e
 
   pub spacious : (place + 64 ≤ length m) × (length m ≤ place + 1522)
-  spacious = let g = subst (λ (x : Reading). Good (length m) x) knows (head-good m) in (g .0, g .1 .0)
+  spacious = let g = subst (λ (x : Reading). Good (length m) x) knows (head-good m) in (g .least, g .most)
 
   -- the part from where the data begin
   pub part : take (length m - place) (drop place m) ≡ drop place m
@@ -92,14 +95,14 @@ module _ (m : List ℕ) (r : Record) (b : List ℕ) {got : Received} where
                 ∙ sym (simp (le-ltb _ _ h, in-range, knows m read e));
           }
 
-      pub faulty : {fault : Fault} → head ≡ Refused fault → told got ≡ unchanged (faulted fault) r → Answered m r b got b
+      pub faulty : {fault : Fault} → head ≡ Refused fault → told got ≡ unchanged (says (faultNumber fault) (faultDetail fault)) r → Answered m r b got b
       unfolding receivedOf bufferOf
       faulty {fault} e t =
           let in-range = ap not (sym tested) ∙ q in
           let f = sym read ∙ ap reading e in
           record {
-            step = t ∙ sym (simp (le-ltb _ _ h, in-range, f, refused-step fault m r));
-            octets = sym (simp (le-ltb _ _ h, in-range, f, refused-step fault m r, refused-writes fault));
+            step = t ∙ sym (simp (le-ltb _ _ h, in-range, f));
+            octets = sym (simp (le-ltb _ _ h, in-range, f, refused-writes fault));
           }
 
 -- express_body
@@ -107,19 +110,23 @@ body-by : (m : List ℕ) → bodyOf m ≡ cond (eqb (byHead (headOf m) m fresh .
 unfolding bodyOf receivedOf inRange
 body-by m = refl
 
-pub no-body : (m : List ℕ) {h : Head} {fault : Fault} → reading h ≡ headOf m → h ≡ Refused fault → [] ≡ bodyOf m
-no-body m {fault = fault} read e = sym (body-by m ∙ rw (← read, e) (refused-body fault m))
+none-by : (b : Bool) → _≡_ {A = List ℕ} (cond b [] []) []
+none-by true = refl
+none-by false = refl
 
-module _ (m : List ℕ) {h : Head} {kind : Kind} {place : ℕ} (read : reading h ≡ headOf m) (e : h ≡ Known kind place) (got : Received) {s : Said}
-    (decided : told got ≡ stepOf kind (take (length m - place) (drop place m)) fresh) (tells : s ≡ said (got .answer)) where
-  number : stepOf kind (drop place m) fresh .said .number ≡ s .number
-  number = sym (ap (λ (t : Said). t .number) tells ∙ ap (λ (t : Step). t .said .number) (decided ∙ ap (λ (l : List ℕ). stepOf kind l fresh) (part m read e)))
+pub no-body : (m : List ℕ) {h : Head} {fault : Fault} → reading h ≡ headOf m → h ≡ Refused fault → [] ≡ bodyOf m
+no-body m {fault = fault} read e = sym (body-by m ∙ rw (← read, e) (none-by (eqb (faultNumber fault) 0)))
+
+module _ (m : List ℕ) {h : Head} {kind : Kind} {place : ℕ} (read : reading h ≡ headOf m) (e : h ≡ Known kind place) (got : Received) {number : ℕ} {r : Record}
+    (decided : told got ≡ stepOf kind (take (length m - place) (drop place m)) r) (begun : r ≡ fresh) (numbered : number ≡ said (got .answer) .number) where
+  number-is : stepOf kind (drop place m) fresh .said .number ≡ number
+  number-is = sym (numbered ∙ ap (λ (t : Step). t .said .number) (decided ∙ ap₂ (λ (l : List ℕ) (q : Record). stepOf kind l q) (part m read e) begun))
 
   data-part : take (length m - 4 - place) (drop place m) ≡ dataOf (drop place m)
   data-part = ap (λ (k : ℕ). take k (drop place m)) (let g : length m - 4 - place ≡ length (drop place m) - 4 = omega (arith, length-drop place m) in g)
 
-  pub body : s .number ≡ 0 → take (length m - 4 - place) (drop place m) ≡ bodyOf m
-  body q = data-part ∙ sym (body-by m ∙ rw (knows m read e, number, q) refl)
+  pub body : number ≡ 0 → take (length m - 4 - place) (drop place m) ≡ bodyOf m
+  body q = data-part ∙ sym (body-by m ∙ rw (knows m read e, number-is, q) refl)
 
-  pub other : (s .number ≡ 0 → ⊥) → [] ≡ bodyOf m
-  other q = sym (body-by m ∙ rw (knows m read e, number, ne-eqb (s .number) 0 q) refl)
+  pub other : (number ≡ 0 → ⊥) → [] ≡ bodyOf m
+  other q = sym (body-by m ∙ rw (knows m read e, number-is, ne-eqb number 0 q) refl)

@@ -10,10 +10,9 @@ use Rattle.octets.specs.Laid.{laid}
 use Rattle.crc.specs.Judge.{dataOf}
 use Rattle.mframe.specs.Head.{Reading, known, refused, headOf}
 use Rattle.mframe.specs.declared.Kind.{Kind}
-use Rattle.answers.specs.declared.Said.{Said}
 use Rattle.answers.specs.declared.Record.{Record}
 use Rattle.answers.specs.declared.Received.{Received}
-use Rattle.answers.specs.Answers.{says}
+use Rattle.answers.specs.Answers.{Said, says}
 use Rattle.answers.specs.Records.{fresh, inRange}
 use Rattle.assembly.specs.Steps.{Step, told, unchanged, stepOf}
 

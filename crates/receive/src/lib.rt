@@ -2,6 +2,8 @@
 use answers::Received;
 use answers::Record;
 use answers::Refusal;
+use mframe::BODY_MOST;
+use mframe::CHECK;
 use mframe::Head;
 use mframe::Kind;
 ghost use mathlib.Core.Path.{_≡_};
@@ -9,12 +11,6 @@ ghost use Prim.Native.Nat.{_+_, _≤_};
 ghost use lib.ListN.{length};
 ghost use Rattle.crc.specs.Judge.{dataOf};
 ghost use Rattle.receive.specs.Receive.{writes, upTo, Taken, Answered, bodyOf};
-
-// The least buffer.
-const ROOM: usize = 1518;
-
-// The octets of a check.
-const CHECK: usize = 4;
 
 // Whether an answer has the data written.
 fn writes(number: u32) -> bool
@@ -43,9 +39,8 @@ fn take(kind: Kind, octets: &[u8], record: Record, buffer: &mut [u8]) -> Receive
 {
     let got = assembly::decide(kind, octets, record);
     let answer = got.answer;
-    let said = answer.said();
-    if writes(said.number) {
-        keep(octets, said.detail, buffer);
+    if writes(answer.number()) {
+        keep(octets, answer.detail(), buffer);
     }
     got
 }
@@ -54,7 +49,7 @@ fn take(kind: Kind, octets: &[u8], record: Record, buffer: &mut [u8]) -> Receive
 pub fn receive(mframe: &[u8], record: Record, buffer: &mut [u8]) -> Received
     ensures { λ r. ⌜ Answered (now (mframe .entry)) «record» (now (buffer .entry)) r (now (buffer .exit)) ⌝ }
 {
-    if buffer.len() < ROOM {
+    if buffer.len() < BODY_MOST {
         return assembly::refuse(Refusal::Buffer, record);
     }
     if !record.in_range() {
@@ -73,10 +68,9 @@ pub fn express_body(mframe: &[u8]) -> &[u8]
     let Head::Known(kind, place) = mframe::head_of(mframe) else {
         return &mframe[0..0];
     };
-    let got = assembly::decide(kind, &mframe[place..], Record::FRESH);
+    let got = assembly::decide(kind, &mframe[place..], Record::fresh());
     let answer = got.answer;
-    let said = answer.said();
-    if said.number == 0 {
+    if answer.number() == 0 {
         let end = mframe.len() - CHECK;
         return &mframe[place..end];
     }

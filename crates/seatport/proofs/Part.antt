@@ -1,20 +1,19 @@
 -- The express body as where it starts and how long it is.
 -- Assumes nothing.
-use mathlib.Core.Path.{_≡_, refl, ap₂}
-use mathlib.Core.Bool.{Bool, true, false, cond}
+use mathlib.Core.Path.{_≡_, refl, sym, ap₂, _∙_}
+use mathlib.Core.Bool.{Bool, true, false, cond, false≢true}
 use mathlib.Core.List.{List, [], _∷_}
 use Prim.Native.Nat.{ℕ, _+_, _-_, _≤_}
 use native.Mathlib.Omega.{arith}
-use borrow.Author.Tests.{eqb-true}
 use lib.Dec.{eqb}
 use lib.ListN.{length, drop, length-drop}
 use lib.Seq.{length-take-le}
 use Rattle.crc.specs.Judge.{dataOf}
 use Rattle.mframe.specs.Head.{Reading, known, refused, headOf}
+use Rattle.mframe.proofs.Heads.{Good, head-good, no-delivery}
 use Rattle.answers.specs.Records.{fresh, inRange}
 use Rattle.receive.specs.Receive.{byHead, receivedOf, dataIn, bodyOf}
 use Rattle.seatport.specs.Receiving.{startOf, partOf}
-use Rattle.seatport.proofs.Received.{Fine, head-fine}
 
 -- a body of an mFrame and the two words that tell it
 pub record Told (m body words : List ℕ) : Type 0 where
@@ -29,19 +28,19 @@ data-length s = length-take-le (length s - 4) s (omega arith)
 abbrev bodyBy : Bool → Reading → List ℕ → List ℕ
 bodyBy b h m = cond b (dataIn h m) []
 
-by-head : (m : List ℕ) (h : Reading) → Fine (length m) h → (b : Bool) → eqb (byHead h m fresh .said .number) 0 ≡ b
+by-head : (m : List ℕ) (h : Reading) → Good (length m) h → (b : Bool) → eqb (byHead h m fresh .said .number) 0 ≡ b
     → Told m (bodyBy b h m) (cond b (startOf h ∷ length (bodyBy b h m) ∷ []) (0 ∷ 0 ∷ []))
-by-head m h f false q = record { none = λ e. refl; some = λ e. absurd (e refl); ends = λ e. absurd (e refl); most = λ e. absurd (e refl) }
-by-head m (refused number detail) f true q = absurd (let z = eqb-true number 0 q in let y : ⊥ = omega (arith, z, f .0) in y)
-by-head m (known kind place) f true q =
-    let n : length (dataOf (drop place m)) + place + 4 ≡ length m = omega (arith, data-length (drop place m), length-drop place m, f .0, f .1 .0) in
+by-head m h g false q = record { none = λ e. refl; some = λ e. absurd (e refl); ends = λ e. absurd (e refl); most = λ e. absurd (e refl) }
+by-head m (refused number detail) g true q = absurd (false≢true (sym (no-delivery g) ∙ q))
+by-head m (known kind place) g true q =
+    let n : length (dataOf (drop place m)) + place + 4 ≡ length m = omega (arith, data-length (drop place m), length-drop place m, g .least) in
     record {
-      none = λ e. absurd (let y : ⊥ = omega (arith, n, e, f .0, f .1 .0) in y);
+      none = λ e. absurd (let y : ⊥ = omega (arith, n, e, g .least) in y);
       some = λ e. ap₂ (λ (x y : ℕ). x ∷ y ∷ []) (let z : length m - 4 - length (dataOf (drop place m)) ≡ place = omega (arith, n) in z) refl;
       ends = λ e. omega (arith, n);
-      most = λ e. f .1 .1;
+      most = λ e. omega (arith, g .early, g .most);
     }
 
 pub part-told : (m : List ℕ) → Told m (bodyOf m) (partOf m)
 unfolding bodyOf partOf receivedOf inRange
-part-told m = by-head m (headOf m) (head-fine m) (eqb (byHead (headOf m) m fresh .said .number) 0) refl
+part-told m = by-head m (headOf m) (head-good m) (eqb (byHead (headOf m) m fresh .said .number) 0) refl

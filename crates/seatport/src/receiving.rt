@@ -3,16 +3,12 @@ use answers::Counters;
 use answers::Record;
 use codes::FragmentCount;
 use codes::FrameCount;
+use mframe::BODY_MOST;
+use mframe::CHECK;
 ghost use mathlib.Core.Path.{_≡_};
 ghost use mathlib.Core.Bool.{true};
 ghost use Prim.Native.Nat.{_<_, _^_};
 ghost use Rattle.seatport.specs.Receiving.{receiverWords, receiverFits, receiverOf, receivingOf, Received, partOf};
-
-// The least assembly buffer.
-const BUFFER: usize = 1518;
-
-// The octets of a check.
-const CHECK: usize = 4;
 
 // Whether nine words are a receiving record's.
 fn receiver_fits(words: [u32; 9]) -> bool
@@ -81,13 +77,12 @@ pub extern "C" fn seatport_receive(
         let got = receive::receive(mframe, receiver_of(words), buffer);
         let answer = got.answer;
         let after = got.after;
-        let said = answer.said();
         *receiver = receiver_words(after);
-        *detail = said.detail as u32;
-        return said.number;
+        *detail = answer.detail() as u32;
+        return answer.number();
     }
     *detail = 0;
-    if buffer.len() < BUFFER {
+    if buffer.len() < BODY_MOST {
         return 10;
     }
     11

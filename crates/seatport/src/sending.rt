@@ -3,33 +3,18 @@ use codes::FragmentCount;
 use codes::FrameCount;
 use cut::Ask;
 use mframe::Answer;
-use mframe::Refusal;
+use mframe::OUTPUT_LEAST;
 use send::Record;
 ghost use mathlib.Core.Path.{_≡_};
 ghost use mathlib.Core.Bool.{true};
 ghost use Prim.Native.Nat.{_<_, _^_};
 ghost use lib.ListN.{length};
-ghost use Rattle.mframe.specs.Sending.{said, number, expressOf, orderOf};
+ghost use Rattle.mframe.specs.Sending.{said, expressOf, orderOf};
 ghost use Rattle.mframe.specs.declared.Kind.the-variants as Kinds;
 ghost use Rattle.seatport.specs.Sending.{numberOf, writtenOf, Short, Wrote, senderWords, senderFits, senderOf, askOf, sendingOf, Sent};
 
-// The least output buffer.
-const OUTPUT: usize = 1530;
-
 // Stands for no ask.
 const NO_ASK: usize = 0xFFFF_FFFF_FFFF_FFFF;
-
-fn number(why: Refusal) -> u32
-    ensures { λ r. ⌜ r ≡ number why ⌝ }
-{
-    match why {
-        Refusal::Output => 30,
-        Refusal::Record => 31,
-        Refusal::Body => 32,
-        Refusal::Length => 33,
-        Refusal::Hold => 34,
-    }
-}
 
 // The number that is returned.
 fn number_of(answer: Answer) -> u32
@@ -37,7 +22,7 @@ fn number_of(answer: Answer) -> u32
 {
     match answer {
         Answer::Wrote { length: _, done: _ } => 0,
-        Answer::Refused(why) => number(why),
+        Answer::Refused(why) => why.number(),
     }
 }
 
@@ -160,7 +145,7 @@ pub extern "C" fn seatport_preemptable(
         return number_of(answer);
     }
     *written = [0, 0];
-    if out.len() < OUTPUT {
+    if out.len() < OUTPUT_LEAST {
         return 30;
     }
     31

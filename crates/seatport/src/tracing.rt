@@ -1,21 +1,9 @@
 // One record of a trace.
 use trace::Cursor;
 use trace::Read;
-use trace::Refusal;
 ghost use mathlib.Core.Path.{_≡_};
-ghost use Rattle.trace.specs.Trace.{said, refusalNumber, readAt};
+ghost use Rattle.trace.specs.Trace.{said, readAt};
 ghost use Rattle.seatport.specs.Tracing.{numberOf, contentOf, Short, Traced};
-
-fn number(why: Refusal) -> u32
-    ensures { λ r. ⌜ r ≡ refusalNumber why ⌝ }
-{
-    match why {
-        Refusal::Header => 50,
-        Refusal::Length => 51,
-        Refusal::Kind => 52,
-        Refusal::Content => 53,
-    }
-}
 
 fn number_of(read: Read) -> u32
     ensures { λ r. ⌜ r ≡ numberOf (said read) ⌝ }
@@ -27,7 +15,7 @@ fn number_of(read: Read) -> u32
             next: _,
         } => 0,
         Read::End => 1,
-        Read::Refused(why) => number(why),
+        Read::Refused(why) => why.number(),
     }
 }
 

@@ -6,13 +6,20 @@ use codes::FrameCount;
 use cut::Ask;
 use cut::Part;
 use mframe::Answer;
+use mframe::BODY_LEAST;
+use mframe::BODY_MOST;
+use mframe::CHECK;
 use mframe::Kind;
+use mframe::OUTPUT_LEAST;
 use mframe::Refusal;
 ghost use mathlib.Core.Path.{_≡_};
 ghost use Prim.Native.Nat.{_+_, _≤_};
 ghost use lib.ListN.{length};
 ghost use Rattle.send.specs.Record.{idle, going, inRange, differs, held};
 ghost use Rattle.send.specs.Preemptable.{Sent, ruled, refusalOf, partNow, Ends, kindOf, checkOf, frameAfter, fragmentAfter, recordAfter, sentOf};
+
+// A frame in progress has sent so many octets at least, and has as many left.
+const PART_LEAST: usize = 60;
 
 // Whether no frame is in progress: all three 0.
 pub(crate) fn is_idle(r: Record) -> bool
@@ -35,16 +42,16 @@ pub(crate) fn is_going(r: Record) -> bool
 {
     let fragment = r.fragment;
     let count = fragment.0;
-    if r.length < 60 {
+    if r.length < BODY_LEAST {
         return false;
     }
-    if 1518 < r.length {
+    if BODY_MOST < r.length {
         return false;
     }
-    if r.sent < 60 {
+    if r.sent < PART_LEAST {
         return false;
     }
-    if r.length - 60 < r.sent {
+    if r.length - PART_LEAST < r.sent {
         return false;
     }
     count <= 3
@@ -98,14 +105,14 @@ pub(crate) enum Ruling {
 pub(crate) fn rule(r: Record, n: usize, room: usize) -> Ruling
     ensures { λ v. ⌜ ruled v ≡ refusalOf r n room ⌝ }
 {
-    if room < 1530 {
+    if room < OUTPUT_LEAST {
         return Ruling::Stop(Refusal::Output);
     }
     if in_range(r) {
-        if n < 60 {
+        if n < BODY_LEAST {
             return Ruling::Stop(Refusal::Body);
         }
-        if 1518 < n {
+        if BODY_MOST < n {
             return Ruling::Stop(Refusal::Body);
         }
         if other_length(r, n) {
@@ -132,7 +139,7 @@ pub(crate) fn stretch(r: Record, n: usize, ask: Ask) -> End
     let sent = r.sent;
     let extra = r.extra;
     if r.active {
-        if let Part::Cut(k) = cut::next_part(n + 4, sent, extra, ask) {
+        if let Part::Cut(k) = cut::next_part(n + CHECK, sent, extra, ask) {
             return End {
                 to: sent + k,
                 done: false,

@@ -1,6 +1,6 @@
 // The house trace (document 01, "Trace and listing"), read record by record.
 ghost use mathlib.Core.Path.{_≡_};
-ghost use Rattle.trace.specs.Trace.{front, said, littleEndian, readAt};
+ghost use Rattle.trace.specs.Trace.{front, refusalNumber, said, littleEndian, readAt};
 
 // A record's header: the length of its content and its kind, two octets each.
 const HEADER: usize = 4;
@@ -16,6 +16,7 @@ pub struct Cursor {
     pub at: usize,
 }
 
+// Why a record is refused: 50 to 53.
 pub enum Refusal {
     // The header is cut.
     Header,
@@ -25,6 +26,19 @@ pub enum Refusal {
     Kind,
     // The content is cut.
     Content,
+}
+
+impl Refusal {
+    pub fn number(self) -> u32
+        ensures { λ n. ⌜ n ≡ refusalNumber self ⌝ }
+    {
+        match self {
+            Refusal::Header => 50,
+            Refusal::Length => 51,
+            Refusal::Kind => 52,
+            Refusal::Content => 53,
+        }
+    }
 }
 
 pub enum Read {

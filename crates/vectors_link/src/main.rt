@@ -30,20 +30,21 @@ fn arrive(l: Link, mframe: &[u8], buffer: &mut [u8]) -> Link {
     let got = receive::receive(mframe, r, buffer);
     let answer = got.answer;
     let after = got.after;
-    let said = answer.said();
-    say::first(said.number as u64);
-    say::number(said.detail as u64);
-    if said.number == 0 {
+    let number = answer.number();
+    let detail = answer.detail();
+    say::first(number as u64);
+    say::number(detail as u64);
+    if number == 0 {
         say_body(receive::express_body(mframe));
     }
-    if said.number == 1 {
-        say_body(read::front(buffer, said.detail));
+    if number == 1 {
+        say_body(read::front(buffer, detail));
     }
     say::line_end();
     let t = l.tally;
     Link {
         receiver: after,
-        tally: t.answered(said.number),
+        tally: t.answered(number),
         ..l
     }
 }
@@ -219,7 +220,7 @@ fn entry() -> bool {
     let first = Link {
         x: read::word(seed[0], seed[1], seed[2], seed[3]),
         sender: send::Record::fresh(true, false, 0),
-        receiver: answers::Record::FRESH,
+        receiver: answers::Record::fresh(),
         seed: 0,
         length: 0,
         tally: Tally::NONE,

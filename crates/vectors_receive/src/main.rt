@@ -5,7 +5,6 @@ use answers::Counters;
 use answers::Record;
 use codes::FragmentCount;
 use codes::FrameCount;
-use libc::STDOUT_FILENO;
 use questions::read;
 use questions::say;
 
@@ -71,9 +70,8 @@ fn buffer(kept: Kept, space: &mut [u8]) -> Turn {
 }
 
 fn say_answer(answer: Answer) {
-    let said = answer.said();
-    io::print_decimal(STDOUT_FILENO, said.number as u64);
-    say::number(said.detail as u64);
+    say::first(answer.number() as u64);
+    say::number(answer.detail() as u64);
 }
 
 fn say_record(r: Record) {
@@ -165,7 +163,7 @@ fn question(kept: Kept, space: &mut [u8]) -> Turn {
 fn main() {
     let mut space = [0u8; 2048];
     let mut kept = Kept {
-        record: Record::FRESH,
+        record: Record::fresh(),
         buffer: 0,
     };
     let mut turns = u32::MAX;

@@ -4,7 +4,6 @@ use codes::FragmentCount;
 use codes::FrameCount;
 use cut::Ask;
 use mframe::Answer;
-use mframe::Refusal;
 use questions::read;
 use questions::say;
 use send::Record;
@@ -20,16 +19,6 @@ enum Turn {
     Stop,
 }
 
-fn number(refusal: Refusal) -> u64 {
-    match refusal {
-        Refusal::Output => 30,
-        Refusal::Record => 31,
-        Refusal::Body => 32,
-        Refusal::Length => 33,
-        Refusal::Hold => 34,
-    }
-}
-
 // The answer, and the FCS of all of the buffer.
 fn say_answer(answer: Answer, out: &[u8]) {
     match answer {
@@ -39,7 +28,7 @@ fn say_answer(answer: Answer, out: &[u8]) {
         }
         Answer::Refused(refusal) => {
             say::text(b" refused");
-            say::number(number(refusal));
+            say::number(refusal.number() as u64);
         }
     }
     say::octets(crc::fcs(crc::over(crc::ALL_ONES, out)));

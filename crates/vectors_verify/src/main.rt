@@ -105,7 +105,7 @@ fn question(kept: Record) -> Turn {
 
 // A proved loop has to end, and nothing says that the input does: it counts its turns down from more than any input has.
 fn main() {
-    let mut kept = Record::new();
+    let mut kept = Record::fresh();
     let mut turns = u32::MAX;
     while turns > 0 {
         let Turn::Go(next) = question(kept) else {

@@ -21,9 +21,9 @@ back Refused = refl
 pub said-once : (a b : Answer) → said a ≡ said b → a ≡ b
 said-once a b e = sym (back a) ∙ ap unsaid e ∙ back b
 
--- Record::new
-pub new-once : {x y : Record} → x ≡ fresh → y ≡ fresh → x ≡ y
-new-once p q = p ∙ sym q
+-- Record::fresh
+pub fresh-once : {x y : Record} → x ≡ fresh → y ≡ fresh → x ≡ y
+fresh-once p q = p ∙ sym q
 
 -- step
 pub step-once : (r : Record) (e : Event) {x y : Stepped} → told x ≡ stepOf r e → told y ≡ stepOf r e → x ≡ y

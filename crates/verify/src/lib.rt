@@ -1,6 +1,6 @@
 // Link verification (document 01, "Verification"): does the neighbour answer a V with an R?
 ghost use mathlib.Core.Path.{_≡_};
-ghost use Rattle.verify.specs.Verify.{fresh, isTrying, counted, inRange, takes, oneLess, effect, told, stepOf};
+ghost use Rattle.verify.specs.Verify.{fresh, isOff, isTrying, counted, inRange, takes, oneLess, effect, told, stepOf};
 
 // The milliseconds that an attempt waits for an R, and the number of attempts.
 const WAIT: u8 = 10;
@@ -47,18 +47,27 @@ pub struct Stepped {
 
 impl Record {
     // Off, and nothing owed.
-    pub const FRESH: Record = Record {
-        phase: Phase::Off,
-        attempt: 0,
-        left: 0,
-        owed: false,
-    };
-
-    // The fresh record.
-    pub fn new() -> Self
+    pub fn fresh() -> Record
         ensures { λ r. ⌜ r ≡ fresh ⌝ }
     {
-        Record::FRESH
+        Record {
+            phase: Phase::Off,
+            attempt: 0,
+            left: 0,
+            owed: false,
+        }
+    }
+
+    fn is_off(self) -> bool
+        ensures { λ b. ⌜ b ≡ isOff (self .phase) ⌝ }
+    {
+        let phase = self.phase;
+        match phase {
+            Phase::Off => true,
+            Phase::Trying => false,
+            Phase::Verified => false,
+            Phase::Failed => false,
+        }
     }
 
     fn is_trying(self) -> bool
@@ -122,13 +131,10 @@ fn enable(record: Record) -> Stepped
         left: WAIT,
         ..record
     };
-    let phase = record.phase;
-    match phase {
-        Phase::Off => taken(begun, true),
-        Phase::Trying => taken(record, false),
-        Phase::Verified => taken(record, false),
-        Phase::Failed => taken(record, false),
+    if record.is_off() {
+        return taken(begun, true);
     }
+    taken(record, false)
 }
 
 // Trying becomes verified.

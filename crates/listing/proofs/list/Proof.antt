@@ -2,6 +2,7 @@
 -- Assumes nothing.
 use mathlib.Core.Path.{ap, _∙_}
 use borrow.Author.Needs.{needs}
+use Rattle.answers.specs.Answers.{Said}
 use Rattle.assembly.specs.Steps.{Step}
 use Rattle.listing.proofs.Laws.{line-as}
 use Rattle.listing.proofs.list.Statement.{statement}
@@ -10,11 +11,14 @@ use Rattle.listing.proofs.list.Tie as tie
 receive-requires : tie.Need-receive-requires
 receive-requires c κs = search needs
 
-said-requires : tie.Need-said-requires
-said-requires c κs = search needs
+number-requires : tie.Need-number-requires
+number-requires c κs = search needs
 
 cast-record-line : tie.Need-cast-record-line
 cast-record-line c = search needs
+
+detail-requires : tie.Need-detail-requires
+detail-requires c κs = search needs
 
 record-line-requires : tie.Need-record-line-requires
 record-line-requires c κs = search needs
@@ -29,11 +33,12 @@ returns : tie.Need-returns
 returns c =
     let got = c .before .before .before .before .before .before .before .before .before .receive .ensures in
     let a = c .before .before .before .before .before .before .before .before .before .before .before .before .before .before .args in
-    let s = c .before .before .before .before .before .before .said .ensures ∙ ap (λ (t : Step). t .said) (got .step) in
+    let said = ap (λ (t : Step). t .said) (got .step) in
     record {
       after = ap (λ (t : Step). t .after) (got .step);
       buffer = got .octets;
-      line = line-as (a .number) (c .before .before .before .before .before .before .said .result) _ s (c .before .before .before .record-line .ensures);
+      line = line-as (a .number) _ (c .before .before .before .before .before .before .number .ensures ∙ ap (λ (s : Said). s .number) said)
+          (c .before .before .before .before .before .detail .ensures ∙ ap (λ (s : Said). s .detail) said) (c .before .before .before .record-line .ensures);
     }
 
 pub list-spec : {M : Type 1} → statement M
@@ -41,8 +46,9 @@ list-spec =
     tie.close
     (tie.spec
     receive-requires
-    said-requires
+    number-requires
     cast-record-line
+    detail-requires
     record-line-requires
     same-length
     same-length-2

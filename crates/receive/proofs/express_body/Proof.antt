@@ -43,11 +43,14 @@ part-decide-start c =
 part-decide-end : tie.Need-part-decide-end
 part-decide-end c = search needs
 
+fresh-requires : tie.Need-fresh-requires
+fresh-requires c κs = search needs
+
 decide-requires : tie.Need-decide-requires
 decide-requires c κs = search needs
 
-said-requires : tie.Need-said-requires
-said-requires c κs = search needs
+number-requires : tie.Need-number-requires
+number-requires c κs = search needs
 
 sub-end : tie.Need-sub-end
 sub-end c =
@@ -72,9 +75,9 @@ part-result-end-2 c = search needs
 
 returns-2 : tie.Need-returns-2
 returns-2 c =
-    let d = c .before .before .before .before in
-    body _ (d .before .before .before .before .before .head-of .ensures) (d .before .before .before .kind .given .1)
-    (d .decide .result) (d .decide .ensures) (c .before .before .before .said .ensures) (c .before .if1 .taken)
+    let d = c .before .before .before in
+    body _ (d .before .before .before .before .before .before .head-of .ensures) (d .before .before .before .before .kind .given .1)
+    (d .decide .result) (d .decide .ensures) (d .before .fresh .ensures) (c .before .before .number .ensures) (c .before .if1 .taken)
 
 sub-result-3 : tie.Need-sub-result-3
 sub-result-3 c = search needs
@@ -87,9 +90,9 @@ part-result-end-3 c = search needs
 
 returns-3 : tie.Need-returns-3
 returns-3 c =
-    let d = c .before .before .before .before in
-    other _ (d .before .before .before .before .before .head-of .ensures) (d .before .before .before .kind .given .1)
-    (d .decide .result) (d .decide .ensures) (c .before .before .before .said .ensures) (c .before .if1 .left)
+    let d = c .before .before .before in
+    other _ (d .before .before .before .before .before .before .head-of .ensures) (d .before .before .before .before .kind .given .1)
+    (d .decide .result) (d .decide .ensures) (d .before .fresh .ensures) (c .before .before .number .ensures) (c .before .if1 .left)
 
 pub express-body-spec : {M : Type 1} → statement M
 express-body-spec =
@@ -105,8 +108,9 @@ express-body-spec =
     sub-decide
     part-decide-start
     part-decide-end
+    fresh-requires
     decide-requires
-    said-requires
+    number-requires
     sub-end
     sub-result-2
     part-result-start-2

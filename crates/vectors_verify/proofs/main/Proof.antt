@@ -11,8 +11,8 @@ Inv-loop kept₀ turns₀ kept turns = Unit {0}
 abbrev μ-loop : tie.MeasureT-loop
 μ-loop kept₀ turns₀ kept turns = turns
 
-new-requires : tie.Need-new-requires Inv-loop μ-loop
-new-requires c κs = search needs
+fresh-requires : tie.Need-fresh-requires Inv-loop μ-loop
+fresh-requires c κs = search needs
 
 loop-holds : tie.Need-loop-holds Inv-loop μ-loop
 loop-holds c = tt
@@ -47,7 +47,7 @@ main-spec =
     (tie.spec
     Inv-loop
     μ-loop
-    new-requires
+    fresh-requires
     loop-holds
     question-requires
     enum-known-next

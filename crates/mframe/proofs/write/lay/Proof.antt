@@ -12,6 +12,9 @@ use Rattle.mframe.proofs.Laws.{header-length, mframe-length}
 use Rattle.mframe.proofs.write.lay.Statement.{statement}
 use Rattle.mframe.proofs.write.lay.Tie as tie
 
+add-end : tie.Need-add-end
+add-end c = search needs
+
 header-requires : tie.Need-header-requires
 header-requires c κs = search needs
 
@@ -26,9 +29,6 @@ copy-into-requires-2 c κs = search needs
 
 slice-aggregate-copy-into-2 : tie.Need-slice-aggregate-copy-into-2
 slice-aggregate-copy-into-2 c = search needs
-
-add-copy-into : tie.Need-add-copy-into
-add-copy-into c = search needs
 
 copy-into-requires-3 : tie.Need-copy-into-requires-3
 copy-into-requires-3 c κs = search needs
@@ -53,12 +53,12 @@ pub lay-spec : {M : Type 1} → statement M
 lay-spec =
     tie.close
     (tie.spec
+    add-end
     header-requires
     slice-aggregate-copy-into
     copy-into-requires
     copy-into-requires-2
     slice-aggregate-copy-into-2
-    add-copy-into
     copy-into-requires-3
     add-result
     same-length

@@ -1,9 +1,8 @@
 -- `seatport::receiving::seatport_receive` meets its contract.
 -- Assumes nothing.
-use mathlib.Core.Path.{refl, sym, ap, subst, _∙_}
-use Prim.Native.Nat.{_<_, _^_}
+use mathlib.Core.Path.{refl, sym, subst, _∙_}
+use Prim.Native.Nat.{ℕ, _<_, _^_}
 use lib.ListN.{length}
-use Rattle.answers.specs.declared.Said.{Said}
 use Rattle.seatport.specs.Receiving.{receivingOf}
 use Rattle.seatport.proofs.Rules.{tests}
 use Rattle.seatport.proofs.Received.{Fits, received-fits, received-words}
@@ -20,20 +19,23 @@ receiver-of-requires c κs = sym (c .before .receiver-fits .ensures) ∙ c .if1 
 receive-requires : tie.Need-receive-requires
 receive-requires c κs = search needs
 
-said-requires : tie.Need-said-requires
-said-requires c κs = search needs
-
 receiver-words-requires : tie.Need-receiver-words-requires
 receiver-words-requires c κs =
-    let a = c .before .before .before .before .before .before .before .before .before .before .before .before .args in
-    let f = received-fits (c .before .before .before .before .before .before .receiver-of .result) (c .before .before .before .before .before .before .receiver-of .ensures .1) (a .mframe .now) (length (a .buffer .now)) in
-    subst Fits (sym (c .before .before .before .before .receive .ensures .step)) f .kept
+    let a = c .before .before .before .before .before .before .before .before .before .before .before .args in
+    let f = received-fits (c .before .before .before .before .before .receiver-of .result) (c .before .before .before .before .before .receiver-of .ensures .1) (a .mframe .now) (length (a .buffer .now)) in
+    subst Fits (sym (c .before .before .before .receive .ensures .step)) f .kept
+
+detail-requires : tie.Need-detail-requires
+detail-requires c κs = search needs
 
 cast-detail : tie.Need-cast-detail
 cast-detail c =
-    let a = c .before .before .before .before .before .before .before .before .before .before .before .before .before .before .args in
-    let f = received-fits (c .before .before .before .before .before .before .before .before .receiver-of .result) (c .before .before .before .before .before .before .before .before .receiver-of .ensures .1) (a .mframe .now) (length (a .buffer .now)) in
-    record { fits = subst (λ (s : Said). s .detail < 2 ^ 32) (sym (c .before .before .said .ensures)) (subst Fits (sym (c .before .before .before .before .before .before .receive .ensures .step)) f .detail) }
+    let a = c .before .before .before .before .before .before .before .before .before .before .before .before .before .args in
+    let f = received-fits (c .before .before .before .before .before .before .before .receiver-of .result) (c .before .before .before .before .before .before .before .receiver-of .ensures .1) (a .mframe .now) (length (a .buffer .now)) in
+    record { fits = subst (λ (n : ℕ). n < 2 ^ 32) (sym (c .detail .ensures)) (subst Fits (sym (c .before .before .before .before .before .receive .ensures .step)) f .detail) }
+
+number-requires : tie.Need-number-requires
+number-requires c κs = search needs
 
 same-length : tie.Need-same-length
 same-length c = search needs
@@ -42,8 +44,7 @@ returns : tie.Need-returns
 unfolding receivingOf
 returns c =
     let fits = sym (c .before .before .before .before .before .before .before .before .before .before .receiver-fits .ensures) ∙ c .before .before .before .before .before .before .before .before .before .if1 .taken in
-    let s = c .before .before .said .ensures in
-    let h = received-words (c .before .before .before .before .before .before .receive .ensures) (ap (λ (x : Said). x .number) s) (ap (λ (x : Said). x .detail) s) (c .before .receiver-words .ensures) in
+    let h = received-words (c .before .before .before .before .before .before .receive .ensures) (c .number .ensures) (c .before .detail .ensures) (c .before .before .receiver-words .ensures) in
     simp (fits, ← (c .before .before .before .before .before .before .before .before .receiver-of .ensures .0), ← (c .before .before .before .before .before .before .receive .ensures .octets)) h
 
 returns-2 : tie.Need-returns-2
@@ -67,9 +68,10 @@ seatport-receive-spec =
     receiver-fits-requires
     receiver-of-requires
     receive-requires
-    said-requires
     receiver-words-requires
+    detail-requires
     cast-detail
+    number-requires
     same-length
     returns
     returns-2
