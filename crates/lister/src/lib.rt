@@ -196,21 +196,22 @@ fn last_turn(first: Standing, window: &mut [u8], buffer: &mut [u8], out: &mut [u
 }
 
 // Before the first record: the receiver is fresh, and the title waits.
-fn beginning(title: usize) -> Standing {
+fn begin(out: &mut [u8]) -> Standing
+    requires { ⌜ 88 ≤ length (now out) ⌝ }
+{
     Standing {
         record: Record::fresh(),
         number: 1,
         from: 0,
         to: 0,
         ended: false,
-        waiting: title,
+        waiting: listing::title(out, 0),
     }
 }
 
-fn list_all(window: &mut [u8], buffer: &mut [u8], out: &mut [u8])
+fn list_all(first: Standing, window: &mut [u8], buffer: &mut [u8], out: &mut [u8])
     requires { ⌜ 88 ≤ length (now out) ⌝ }
 {
-    let first = beginning(listing::title(out, 0));
     if let Turn::Over(last) = last_turn(first, window, buffer, out) {
         finish(last, out);
     }
@@ -221,5 +222,6 @@ pub fn run() {
     let mut window = io::large_buffer();
     let mut buffer = [0u8; 1518];
     let mut out = io::large_buffer();
-    list_all(&mut window, &mut buffer, &mut out);
+    let first = begin(&mut out);
+    list_all(first, &mut window, &mut buffer, &mut out);
 }
