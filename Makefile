@@ -6,7 +6,7 @@ MAKERS := $(sort $(wildcard tests/reference/vectors_*.py)) tests/reference/trace
 
 # Lists a trace: make list, or make list TRACE=file. Proves and builds what is missing.
 list:
-	@scripts/list $(TRACE)
+	@scripts/list "$(TRACE)"
 
 # Everything, from nothing.
 test:

@@ -73,5 +73,9 @@ int main(void)
 	printf("counters: %u assembly errors, %u delimiter errors, %u assembled, %u fragments\n", (unsigned)receiver.assembly_errors,
 	       (unsigned)receiver.delimiter_errors, (unsigned)receiver.assembled, (unsigned)receiver.fragments);
 	puts(good ? "both arrived as they were sent" : "something else arrived");
+	if (fflush(stdout) != 0 || ferror(stdout)) {
+		fputs("loopback: the output could not be written.\n", stderr);
+		return 1;
+	}
 	return good ? 0 : 1;
 }

@@ -16,7 +16,7 @@ static unsigned turn;
 
 static void fail(const char *what)
 {
-	printf("compare: %s, turn %u: %s\n", call, turn, what);
+	fprintf(stderr, "compare: %s, turn %u: %s\n", call, turn, what);
 	exit(1);
 }
 
@@ -430,5 +430,9 @@ int main(void)
 	receive_all();
 	step_all();
 	trace_all();
+	if (fflush(stdout) != 0 || ferror(stdout)) {
+		fputs("compare: the output could not be written.\n", stderr);
+		return 1;
+	}
 	return 0;
 }

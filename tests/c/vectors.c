@@ -11,7 +11,7 @@ enum { LONGEST = 2048 };
 
 static void fail(const char *why)
 {
-	fprintf(stderr, "vectors: %s\n", why);
+	fprintf(stderr, "vectors: %s.\n", why);
 	exit(1);
 }
 
@@ -184,7 +184,7 @@ static void receive_questions(void)
 			       r.assembled, r.fragments);
 			print_check(buffer, room);
 			length = plain_express_body(mframe, n, &start);
-			printf(" %zu %zu ", start, length);
+			printf(" %zu ", length);
 			print_check(mframe + start, length);
 			putchar('\n');
 			break;
@@ -228,6 +228,10 @@ int main(int argc, char **argv)
 	else if (argc == 2 && strcmp(argv[1], "verify") == 0)
 		verify_questions();
 	else
-		return 2;
-	return fflush(stdout) == 0 ? 0 : 1;
+		fail("one word chooses the questions: send, receive or verify");
+	if (ferror(stdin))
+		fail("the questions could not be read");
+	if (fflush(stdout) != 0 || ferror(stdout))
+		fail("the output could not be written");
+	return 0;
 }

@@ -1,8 +1,8 @@
-"""mmlist as a program: however the trace comes, whatever happens to its input and output.
+"""mmlist as a program: however the trace comes.
 
 The program must be built (rt check mmlist). What it lists for stored traces is held to the
-reference by rt; here it is fed by pipes in pieces, with more than memory would hold, and with
-an input or an output that fails.
+reference by rt; here it is fed by pipes in pieces, and with more than memory would hold.
+test_failures.py has inputs and outputs that fail.
 """
 
 import os
@@ -60,25 +60,6 @@ class Length(unittest.TestCase):
         self.assertGreater(70 * len(trace), 100_000_000)
         self.assertEqual(listing.count(b"\n"), 70 * records + 2)
         self.assertLess(large, small + 1024)
-
-
-class Failures(unittest.TestCase):
-    def run_with(self, **streams):
-        return subprocess.run(COMMAND, stderr=subprocess.PIPE, **streams)
-
-    def test_an_input_that_cannot_be_read(self):
-        folder = os.open(ROOT, os.O_RDONLY)
-        try:
-            done = self.run_with(stdin=folder, stdout=subprocess.PIPE)
-        finally:
-            os.close(folder)
-        self.assertEqual(done.stderr, b"mmlist: the trace could not be read.\n")
-
-    def test_an_output_that_cannot_be_written(self):
-        trace, _ = stored("mmlist")
-        with open("/dev/full", "wb") as full:
-            done = self.run_with(input=trace, stdout=full)
-        self.assertEqual(done.stderr, b"mmlist: the listing could not be written.\n")
 
 
 if __name__ == "__main__":

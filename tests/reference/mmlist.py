@@ -5,9 +5,8 @@
 reads a trace from standard input and prints its listing.
 """
 
-import sys
-
 import receiving
+import streams
 import trace
 
 
@@ -34,4 +33,4 @@ def listing(octets):
 
 
 if __name__ == "__main__":
-    sys.stdout.write(listing(sys.stdin.buffer.read()))
+    streams.put(listing(streams.taken("A trace", "python3 tests/reference/mmlist.py <row.trace")))

@@ -9,6 +9,8 @@ import sys
 from dataclasses import dataclass
 from pathlib import Path
 
+import streams
+
 REPOSITORY = Path(__file__).resolve().parents[2]
 
 
@@ -64,12 +66,17 @@ def run(files, arguments, root=REPOSITORY):
     parser = argparse.ArgumentParser(description="Writes the stored files of the reference.")
     parser.add_argument("--check", action="store_true",
                         help="write nothing; status 1 where a stored file differs")
-    if not parser.parse_args(arguments).check:
-        write(files, root)
-        for file in files:
-            print(f"{file.path}: {len(file.content)} octets written.")
-        return 0
-    complaints = [sentence for sentence in (complaint(file, root) for file in files) if sentence]
+    check = parser.parse_args(arguments).check
+    try:
+        if not check:
+            write(files, root)
+        complaints = [sentence for sentence in (complaint(file, root) for file in files if check) if sentence]
+    except OSError as error:
+        complaints = [f"{error.filename} could not be {'read' if check else 'written'}."]
     for sentence in complaints:
         print(sentence, file=sys.stderr)
-    return 1 if complaints else 0
+    if complaints:
+        return 1
+    if not check:
+        streams.put("".join(f"{file.path}: {len(file.content)} octets written.\n" for file in files))
+    return 0

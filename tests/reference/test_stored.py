@@ -37,6 +37,11 @@ class WriteAndCheck(unittest.TestCase):
         self.assertEqual(text, "some/folder/stdin is missing.\nsome/folder/stdout is missing.\n")
         self.assertEqual(list(self.root.iterdir()), [])
 
+    def test_a_file_that_cannot_be_written(self):
+        place = self.root / "some/folder/stdin"
+        place.mkdir(parents=True)
+        self.assertEqual(self.run_with(), (1, f"{place} could not be written.\n"))
+
     def altered(self, name, content):
         self.run_with()
         (self.root / name).write_bytes(content)

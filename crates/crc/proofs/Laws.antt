@@ -46,7 +46,7 @@ unfolding registerOver
 register-lt r [] hr hx = hr
 register-lt r (x ∷ xs) hr hx = register-lt (octetStep r x) xs (octet-lt r x hr (hx 0)) (λ i. hx (suc i))
 
--- four check octets, each below 256
+-- four check octets
 pub fcs-length : (r : ℕ) → length (fcsOf r) ≡ 4
 unfolding fcsOf octetsOf
 fcs-length r = refl
@@ -54,21 +54,6 @@ fcs-length r = refl
 pub mcrc-length : (r : ℕ) → length (mcrcOf r) ≡ 4
 unfolding mcrcOf fcsOf octetsOf
 mcrc-length r = refl
-
-four-lt : (a b c d : ℕ) → a < 256 → b < 256 → c < 256 → d < 256 → (i : ℕ) → getD (a ∷ b ∷ c ∷ d ∷ []) i 0 < 256
-four-lt a b c d ha hb hc hd zero = ha
-four-lt a b c d ha hb hc hd (suc zero) = hb
-four-lt a b c d ha hb hc hd (suc (suc zero)) = hc
-four-lt a b c d ha hb hc hd (suc (suc (suc zero))) = hd
-four-lt a b c d ha hb hc hd (suc (suc (suc (suc i)))) = omega arith
-
-pub fcs-lt : (r i : ℕ) → getD (fcsOf r) i 0 < 256
-unfolding fcsOf octetsOf
-fcs-lt r = four-lt _ _ _ _ (omega arith) (omega arith) (omega arith) (omega arith)
-
-pub mcrc-lt : (r i : ℕ) → getD (mcrcOf r) i 0 < 256
-unfolding mcrcOf fcsOf octetsOf
-mcrc-lt r = four-lt _ _ _ _ (omega arith) (omega arith) (omega arith) (omega arith)
 
 -- no register's FCS is its mCRC
 pub fcs-not-mcrc : (r : ℕ) → fcsOf r ≡ mcrcOf r → ⊥

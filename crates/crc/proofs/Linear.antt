@@ -13,7 +13,7 @@ taken p q hp hq =
     bit (λ (x : ℕ). bitXor x q * polynomial ≡ bitXor (x * polynomial) (q * polynomial)) refl
     (bit (λ (y : ℕ). bitXor 1 y * polynomial ≡ bitXor (1 * polynomial) (y * polynomial)) refl refl q hq) p hp
 
-pub step-xor : (a b : ℕ) → bitStep (bitXor a b) ≡ bitXor (bitStep a) (bitStep b)
+step-xor : (a b : ℕ) → bitStep (bitXor a b) ≡ bitXor (bitStep a) (bitStep b)
 unfolding bitStep
 step-xor a b =
     ap₂ (λ (x y : ℕ). bitXor (x * polynomial) y) (xor-odd a b) (xor-half a b)

@@ -23,7 +23,7 @@ unfolding bitStep
 step-odd r e = sym (ap (λ (x : ℕ). bitXor (x * polynomial) (r / 2)) e)
 
 -- a loop's turn, and its end
-pub steps-suc : (n r : ℕ) → bitSteps n (bitStep r) ≡ bitSteps (suc n) r
+steps-suc : (n r : ℕ) → bitSteps n (bitStep r) ≡ bitSteps (suc n) r
 unfolding bitSteps
 steps-suc n r = refl
 

@@ -217,8 +217,15 @@ fn list_all(first: Standing, window: &mut [u8], buffer: &mut [u8], out: &mut [u8
     }
 }
 
-// The listing of standard input, on standard output.
+// The listing of standard input, on standard output. A terminal has no trace to give: whoever sits at it is told how to give one.
 pub fn run() {
+    if libc::isatty(STDIN_FILENO) == 1 {
+        io::write_all(
+            STDERR_FILENO,
+            b"mmlist: a trace is read on standard input, as in: mmlist <row.trace\n",
+        );
+        return;
+    }
     let mut window = io::large_buffer();
     let mut buffer = [0u8; 1518];
     let mut out = io::large_buffer();

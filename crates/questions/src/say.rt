@@ -5,8 +5,9 @@ pub fn text(words: &[u8]) {
     io::write_all(STDOUT_FILENO, words);
 }
 
-pub fn line_end() {
-    text(b"\n");
+// Whether the line could be ended. An output that took no word does not take a line's end either, so that nobody else has to ask.
+pub fn line_end() -> bool {
+    io::write_all(STDOUT_FILENO, b"\n")
 }
 
 pub fn number(n: u64) {

@@ -57,7 +57,7 @@ module _ (kind : Kind) (octets : List ℕ) (r : Record) (b : List ℕ) (got : Re
 
 -- a head that is known
 module _ (m : List ℕ) {h : Head} {kind : Kind} {place : ℕ} (read : reading h ≡ headOf m) (e : h ≡ Known kind place) where
-  pub knows : headOf m ≡ known kind place
+  knows : headOf m ≡ known kind place
   knows = sym read ∙ ap reading e
 
   pub spacious : (place + 64 ≤ length m) × (length m ≤ place + 1522)

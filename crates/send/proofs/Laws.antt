@@ -84,7 +84,7 @@ going-known r e =
     let d = both (leb (r .sent + 60) (r .length)) (leb (r .fragment .0) 3) (c .1) in
     record { least = leb-true _ _ (a .0); most = leb-true _ _ (b .0); begun = leb-true _ _ (c .0); left = leb-true _ _ (d .0); small = leb-true _ _ (d .1) }
 
-pub range-known : (r : Record) → inRange r ≡ true → Range r
+range-known : (r : Record) → inRange r ≡ true → Range r
 unfolding inRange
 range-known r e =
     let a = both (leb (r .extra) 3) _ e in

@@ -24,7 +24,7 @@ check-length register true = fcs-length register
 check-length register false = mcrc-length register
 
 -- the data that an mFrame carries
-pub data-in : (kind : Kind) (part check : List ℕ) → length check ≡ 4 → dataIn (mFrameOf kind part check) ≡ part
+data-in : (kind : Kind) (part check : List ℕ) → length check ≡ 4 → dataIn (mFrameOf kind part check) ≡ part
 data-in kind part check h =
     let n : length (mFrameOf kind part check) - 12 ≡ length part = omega (arith, mframe-length kind part check) in
     let behind : drop 8 (mFrameOf kind part check) ≡ part ++ check =
@@ -63,7 +63,7 @@ module _ (body : List ℕ) where
     call-left ih none e = part-left ih (partNow (setting c r) (length body) (c .ask)) e
 
   -- from a record on, the data are what is left of the body
-  pub joined-left : (cs : List Call) (r : Record) → written body r cs .ended ≡ true → joined (written body r cs .mFrames) ≡ drop (r .sent) body
+  joined-left : (cs : List Call) (r : Record) → written body r cs .ended ≡ true → joined (written body r cs .mFrames) ≡ drop (r .sent) body
   unfolding written
   joined-left [] r e = absurd (false≢true e)
   joined-left (c ∷ cs) r e = call-left c cs r (joined-left cs) (refusalOf (setting c r) (length body) (c .room)) e

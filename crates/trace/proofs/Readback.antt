@@ -5,7 +5,7 @@ use mathlib.Core.List.{List, [], _∷_, _++_, append-assoc, append-nil}
 use Prim.Native.Nat.{ℕ, zero, suc, _+_, _/_, _%_, _≤_, _<_}
 use native.Mathlib.Omega.{arith}
 use lib.ListN.{length, take, drop, getD, length-append}
-use lib.Seq.{getD-append-seam, getD-append-add, take-append-seam, drop-append-add, take-suc, take-length, split-at}
+use lib.Seq.{getD-append-seam, getD-append-add, take-append-seam, drop-append-add, take-suc, split-at}
 use Rattle.trace.specs.Trace.{header, limit, kind, Said, found, ended, refused, littleEndian, lengthAt, kindAt, readAt}
 use Rattle.trace.specs.Layout.{recordOf, traceOf, placeOf, Listing, onward, readFrom, readAll}
 use Rattle.trace.proofs.Laws.{read-end, read-whole, never, found-inside}
@@ -28,16 +28,16 @@ module _ (before c behind : List ℕ) where
   kind-read : kindAt around (length before) ≡ kind
   kind-read = ap₂ littleEndian (getD-append-add before (recordOf c ++ behind) 2 0) (getD-append-add before (recordOf c ++ behind) 3 0)
 
-  pub record-read : length c ≤ limit
+  record-read : length c ≤ limit
       → readAt (before ++ (recordOf c ++ behind)) (length before) ≡ found (length before + header) (length c) (length before + header + length c)
   record-read h =
       let l = around-length in
       read-whole around (length before) (length c) (length-read h) (omega arith) h kind-read (omega arith)
 
-  pub content-read : take (length c) (drop (length before + header) (before ++ (recordOf c ++ behind))) ≡ c
+  content-read : take (length c) (drop (length before + header) (before ++ (recordOf c ++ behind))) ≡ c
   content-read = ap (λ (x : List ℕ). take (length c) x) (drop-append-add before (recordOf c ++ behind) header) ∙ take-append-seam c behind
 
-pub end-read : (s : List ℕ) → readAt s (length s) ≡ ended
+end-read : (s : List ℕ) → readAt s (length s) ≡ ended
 end-read s = read-end s (length s) (omega arith)
 
 -- the records from a place on, behind any octets, are read one after the other up to the end
@@ -84,9 +84,6 @@ module _ (cs : List (List ℕ)) (k : ℕ) (h : k < length cs) where
 
   pub kth-content : take (length (getD cs k [])) (drop (placeOf cs k + header) (traceOf cs)) ≡ getD cs k []
   kth-content = rw split (content-read (traceOf (take k cs)) (getD cs k []) (traceOf (drop (suc k) cs)))
-
-pub last-read : (cs : List (List ℕ)) → readAt (traceOf cs) (placeOf cs (length cs)) ≡ ended
-last-read cs = rw take-length (end-read (traceOf cs))
 
 -- any octets at all are read up to the end or a refusal
 abbrev Stops : Listing → Type 0

@@ -8,45 +8,31 @@ use crc::Ending;
 use cut::Ask;
 use cut::Part;
 use questions::read;
+use questions::read::Came;
 use questions::say;
+use questions::went::Next;
+use questions::went::Went;
 
 // The check octets of every number of octets from 0 to all of them.
-fn check_line(register: u32, octets: &[u8], k: usize) {
-    if octets.len() < k {
-        return;
-    }
-    let after = crc::over(register, &octets[0..k]);
+fn check_line(register: u32, octets: &[u8], k: usize) -> bool {
+    let after = crc::over(register, read::front(octets, k));
     say::text(b"check");
     say::number(k as u64);
     say::octets(crc::fcs(after));
     say::octets(crc::mcrc(after));
-    say::line_end();
+    say::line_end()
 }
 
-fn check_lines(register: u32, octets: &[u8]) {
+fn check_lines(register: u32, octets: &[u8]) -> bool {
     let n = octets.len();
     let mut k = 0;
     while k < n {
-        check_line(register, octets, k);
+        if !check_line(register, octets, k) {
+            return false;
+        }
         k += 1;
     }
-    check_line(register, octets, n);
-}
-
-fn check() -> bool {
-    let mut head = [0u8; 6];
-    let mut space = [0u8; 2048];
-    if read::all(&mut head) {
-        let n = read::short(head[4], head[5]);
-        if read::part(&mut space, n) {
-            check_lines(
-                read::word(head[0], head[1], head[2], head[3]),
-                read::front(&space, n),
-            );
-            return true;
-        }
-    }
-    false
+    check_line(register, octets, n)
 }
 
 // What an octet says.
@@ -71,79 +57,73 @@ fn say_fragment(f: Fragment) {
     }
 }
 
-fn octet() -> bool {
+fn octet() -> Went {
     let mut x = [0u8; 1];
-    if read::all(&mut x) {
-        let octet = x[0];
-        say::text(b"octet");
-        say::small(octet);
-        say::number(codes::distance(octet) as u64);
-        say_delimiter(codes::delimiter_of(octet));
-        say_fragment(codes::fragment_of(octet));
-        say::line_end();
-        return true;
+    if !read::all(&mut x) {
+        return Went::Broken;
     }
-    false
+    let octet = x[0];
+    say::text(b"octet");
+    say::small(octet);
+    say::number(codes::distance(octet) as u64);
+    say_delimiter(codes::delimiter_of(octet));
+    say_fragment(codes::fragment_of(octet));
+    Went::answered(say::line_end())
 }
 
 // A count's steps and codes.
-fn count() -> bool {
+fn count() -> Went {
     let mut x = [0u8; 1];
-    if read::all(&mut x) {
-        let n = x[0];
-        let frame = FrameCount(n);
-        let fragment = FragmentCount(n);
-        let next = frame.next();
-        let last = frame.last();
-        let later = fragment.next();
-        say::text(b"count");
-        say::small(n);
-        say::small(next.0);
-        say::small(last.0);
-        say::small(frame.code());
-        say::small(frame.continued());
-        say::small(later.0);
-        say::small(fragment.code());
-        say::line_end();
-        return true;
+    if !read::all(&mut x) {
+        return Went::Broken;
     }
-    false
+    let n = x[0];
+    let frame = FrameCount(n);
+    let fragment = FragmentCount(n);
+    let next = frame.next();
+    let last = frame.last();
+    let later = fragment.next();
+    say::text(b"count");
+    say::small(n);
+    say::small(next.0);
+    say::small(last.0);
+    say::small(frame.code());
+    say::small(frame.continued());
+    say::small(later.0);
+    say::small(fragment.code());
+    Went::answered(say::line_end())
 }
 
 // Where an mFrame is cut.
-fn say_part(p: Part) {
+fn say_part(p: Part) -> bool {
     say::text(b"cut");
     match p {
         Part::Whole => say::text(b" whole"),
         Part::Cut(n) => say::number(n as u64),
     }
-    say::line_end();
+    say::line_end()
 }
 
-fn cut_asked() -> bool {
-    let mut frame = [0u8; 8];
-    let mut sent = [0u8; 8];
-    let mut how = [0u8; 2];
-    let mut at = [0u8; 8];
-    if !read::all(&mut frame)
-        || !read::all(&mut sent)
-        || !read::all(&mut how)
-        || !read::all(&mut at)
-    {
-        return false;
+fn ask_of(asked: u8, t: usize) -> Ask {
+    if asked == 0 { Ask::None } else { Ask::At(t) }
+}
+
+fn cut_asked() -> Went {
+    let mut head = [0u8; 26];
+    if !read::all(&mut head) {
+        return Went::Broken;
     }
-    let l = read::long(frame);
-    let s = read::long(sent);
-    if how[1] == 0 {
-        say_part(cut::next_part(l, s, how[0], Ask::None));
-    } else {
-        say_part(cut::next_part(l, s, how[0], Ask::At(read::long(at))));
-    }
-    true
+    let ask = ask_of(head[17], read::long(&head, 18));
+    Went::answered(say_part(cut::next_part(
+        read::long(&head, 0),
+        read::long(&head, 8),
+        head[16],
+        ask,
+    )))
 }
 
 // What the last four octets decide.
-fn say_ending(e: Ending) {
+fn say_ending(e: Ending) -> bool {
     say::text(b"ending");
     match e {
         Ending::Done(n) => {
@@ -157,32 +137,31 @@ fn say_ending(e: Ending) {
         }
         Ending::Damaged => say::text(b" damaged"),
     }
-    say::line_end();
+    say::line_end()
 }
 
-fn ending() -> bool {
+// A register and a run of octets: their check octets, or their ending.
+fn over_octets(check: bool) -> Went {
     let mut head = [0u8; 6];
     let mut space = [0u8; 2048];
-    if read::all(&mut head) {
-        let n = read::short(head[4], head[5]);
-        if read::part(&mut space, n) {
-            say_ending(crc::judge(
-                read::word(head[0], head[1], head[2], head[3]),
-                read::front(&space, n),
-            ));
-            return true;
-        }
+    let Came::Whole(n) = read::run(&mut head, &mut space) else {
+        return Went::Broken;
+    };
+    let register = read::word(&head, 0);
+    let octets = read::front(&space, n);
+    if check {
+        return Went::answered(check_lines(register, octets));
     }
-    false
+    Went::answered(say_ending(crc::judge(register, octets)))
 }
 
 // A piece laid into memory.
-fn no_room() {
+fn no_room() -> bool {
     say::text(b"lay no room");
-    say::line_end();
+    say::line_end()
 }
 
-fn lay_piece(piece: &[u8], memory: &mut [u8], at: usize) {
+fn lay_piece(piece: &[u8], memory: &mut [u8], at: usize) -> bool {
     if memory.len() < at {
         return no_room();
     }
@@ -192,53 +171,49 @@ fn lay_piece(piece: &[u8], memory: &mut [u8], at: usize) {
     octets::copy_into(piece, memory, at);
     say::text(b"lay ");
     say::hex_octets(memory);
-    say::line_end();
+    say::line_end()
 }
 
-// The memory is the first n octets of the space.
-fn lay_within(piece: &[u8], space: &mut [u8], n: usize, at: usize) {
-    if n <= space.len() {
-        lay_piece(piece, &mut space[0..n], at);
-    }
-}
-
-fn lay() -> bool {
+fn lay() -> Went {
     let mut head = [0u8; 6];
     let mut memory = [0u8; 2048];
     let mut piece = [0u8; 2048];
-    if read::all(&mut head) {
-        let n = read::short(head[0], head[1]);
-        let m = read::short(head[2], head[3]);
-        let at = read::short(head[4], head[5]);
-        if read::part(&mut memory, n) && read::part(&mut piece, m) {
-            lay_within(read::front(&piece, m), &mut memory, n, at);
-            return true;
-        }
+    if !read::all(&mut head) {
+        return Went::Broken;
     }
-    false
+    let n = read::short(&head, 0);
+    let m = read::short(&head, 2);
+    if !read::part(&mut memory, n) || !read::part(&mut piece, m) {
+        return Went::Broken;
+    }
+    Went::answered(lay_piece(
+        read::front(&piece, m),
+        read::front_mut(&mut memory, n),
+        read::short(&head, 4),
+    ))
 }
 
-fn question() -> bool {
-    let mut first = [0u8; 1];
-    if !read::all(&mut first) {
-        return false;
-    }
-    let kind = first[0];
+fn question(kind: u8) -> Went {
     match kind {
-        1 => check(),
+        1 => over_octets(true),
         2 => octet(),
         3 => count(),
         4 => cut_asked(),
-        5 => ending(),
+        5 => over_octets(false),
         6 => lay(),
-        _ => false,
+        _ => Went::Broken,
     }
 }
 
 // A proved loop has to end, and nothing says that the input does: it counts its turns down from more than any input has.
 fn main() {
+    let mut went = Went::start();
     let mut turns = u32::MAX;
-    while turns > 0 && question() {
+    while turns > 0 {
+        let Next::Question(kind) = went.next(b"vectors_ground") else {
+            return;
+        };
+        went = question(kind);
         turns -= 1;
     }
 }

@@ -8,8 +8,10 @@ use cut::Ask;
 use mframe::Answer;
 use questions::read;
 use questions::say;
+use questions::went::Went;
 
-// The state of an entry: the numbers drawn, both ends, the body of the frame chosen last, and what is counted.
+// The state of an entry: the numbers drawn, both ends, the body of the frame chosen last, what is counted, and whether every line so far was
+// written.
 struct Link {
     x: u32,
     sender: send::Record,
@@ -17,6 +19,7 @@ struct Link {
     seed: u32,
     length: usize,
     tally: Tally,
+    written: bool,
 }
 
 // The body of a delivered frame: its FCS.
@@ -40,11 +43,11 @@ fn arrive(l: Link, mframe: &[u8], buffer: &mut [u8]) -> Link {
     if number == 1 {
         say_body(read::front(buffer, detail));
     }
-    say::line_end();
     let t = l.tally;
     Link {
         receiver: after,
         tally: t.answered(number),
+        written: say::line_end(),
         ..l
     }
 }
@@ -184,7 +187,7 @@ fn one_turn(before: Link, space: &mut [u8], out: &mut [u8], buffer: &mut [u8]) -
     }
 }
 
-fn say_end(l: Link) {
+fn say_end(l: Link) -> bool {
     let t = l.tally;
     let r = l.receiver;
     let c = r.counters;
@@ -194,46 +197,48 @@ fn say_end(l: Link) {
     say::number(c.delimiters as u64);
     say::number(c.assembled as u64);
     say::number(c.fragments as u64);
-    say::line_end();
+    say::line_end()
 }
 
 // All turns of an entry.
-fn play(first: Link, turns: u32, space: &mut [u8], out: &mut [u8], buffer: &mut [u8]) {
+fn play(first: Link, turns: u32, space: &mut [u8], out: &mut [u8], buffer: &mut [u8]) -> bool {
     let mut l = first;
     let mut k = turns;
-    while k > 0 {
+    while k > 0 && l.written {
         l = one_turn(l, space, out, buffer);
         k -= 1;
     }
-    say_end(l);
+    l.written && say_end(l)
 }
 
-fn entry() -> bool {
-    let mut seed = [0u8; 4];
-    let mut turns = [0u8; 4];
+fn entry() -> Went {
+    let mut head = [0u8; 8];
     let mut space = [0u8; 1518];
     let mut out = [0u8; 1530];
     let mut buffer = [0u8; 1518];
-    if !read::all(&mut seed) || !read::all(&mut turns) {
-        return false;
-    }
+    let went = read::first(&mut head);
+    let Went::On = went else {
+        return went;
+    };
     let first = Link {
-        x: read::word(seed[0], seed[1], seed[2], seed[3]),
+        x: read::word(&head, 0),
         sender: send::Record::fresh(true, false, 0),
         receiver: answers::Record::fresh(),
         seed: 0,
         length: 0,
         tally: Tally::NONE,
+        written: true,
     };
-    let k = read::word(turns[0], turns[1], turns[2], turns[3]);
-    play(first, k, &mut space, &mut out, &mut buffer);
-    true
+    let turns = read::word(&head, 4);
+    Went::answered(play(first, turns, &mut space, &mut out, &mut buffer))
 }
 
 // A proved loop has to end, and nothing says that the input does: it counts its turns down from more than any input has.
 fn main() {
+    let mut went = Went::start();
     let mut turns = u32::MAX;
-    while turns > 0 && entry() {
+    while turns > 0 && went.goes_on(b"vectors_link") {
+        went = entry();
         turns -= 1;
     }
 }

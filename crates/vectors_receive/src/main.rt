@@ -6,67 +6,52 @@ use answers::Record;
 use codes::FragmentCount;
 use codes::FrameCount;
 use questions::read;
+use questions::read::Came;
 use questions::say;
+use questions::went::Next;
+use questions::went::Went;
 
-// What is kept from question to question: the record, and how many octets of the lent space are the buffer.
+// What is kept from question to question: the record, how many octets of the lent space are the buffer, and how the last one went.
 struct Kept {
     record: Record,
     buffer: usize,
+    went: Went,
 }
 
-enum Turn {
-    Go(Kept),
-    Stop,
+fn after(kept: Kept, went: Went) -> Kept {
+    Kept { went, ..kept }
 }
 
-fn counters(x: [u8; 16]) -> Counters {
-    Counters {
-        errors: read::word(x[0], x[1], x[2], x[3]),
-        delimiters: read::word(x[4], x[5], x[6], x[7]),
-        assembled: read::word(x[8], x[9], x[10], x[11]),
-        fragments: read::word(x[12], x[13], x[14], x[15]),
+fn record(kept: Kept) -> Kept {
+    let mut x = [0u8; 31];
+    if !read::all(&mut x) {
+        return after(kept, Went::Broken);
     }
-}
-
-fn record(kept: Kept) -> Turn {
-    let mut head = [0u8; 3];
-    let mut octets = [0u8; 8];
-    let mut running = [0u8; 4];
-    let mut counts = [0u8; 16];
-    if !read::all(&mut head)
-        || !read::all(&mut octets)
-        || !read::all(&mut running)
-        || !read::all(&mut counts)
-    {
-        return Turn::Stop;
-    }
-    Turn::Go(Kept {
+    Kept {
         record: Record {
-            assembling: head[0] != 0,
-            frame: FrameCount(head[1]),
-            fragment: FragmentCount(head[2]),
-            kept: read::long(octets),
-            running: read::word(running[0], running[1], running[2], running[3]),
-            counters: counters(counts),
+            assembling: x[0] != 0,
+            frame: FrameCount(x[1]),
+            fragment: FragmentCount(x[2]),
+            kept: read::long(&x, 3),
+            running: read::word(&x, 11),
+            counters: Counters {
+                errors: read::word(&x, 15),
+                delimiters: read::word(&x, 19),
+                assembled: read::word(&x, 23),
+                fragments: read::word(&x, 27),
+            },
         },
         buffer: kept.buffer,
-    })
+        went: Went::On,
+    }
 }
 
-fn buffer(kept: Kept, space: &mut [u8]) -> Turn {
+fn buffer(kept: Kept, space: &mut [u8]) -> Kept {
     let mut head = [0u8; 3];
-    if read::all(&mut head) {
-        let n = read::short(head[0], head[1]);
-        if n <= space.len() {
-            questions::fill(&mut space[0..n], head[2]);
-            let r = kept.record;
-            return Turn::Go(Kept {
-                record: r,
-                buffer: n,
-            });
-        }
-    }
-    Turn::Stop
+    let Came::Whole(n) = read::lent(&mut head, space) else {
+        return after(kept, Went::Broken);
+    };
+    Kept { buffer: n, ..kept }
 }
 
 fn say_answer(answer: Answer) {
@@ -95,67 +80,49 @@ fn say_check(octets: &[u8]) {
     say::octets(crc::fcs(crc::over(crc::ALL_ONES, octets)));
 }
 
-// A part that is not empty begins where the data do.
+// Of the express body nothing here can say where it begins: tests/c/compare.c compares that.
 fn say_body(body: &[u8]) {
-    if 0 < body.len() {
-        say::number(8);
-    } else {
-        say::number(0);
-    }
     say::number(body.len() as u64);
     say_check(body);
 }
 
-fn receive_into(mframe: &[u8], r: Record, buffer: &mut [u8]) -> Record {
+fn receive_into(kept: Kept, mframe: &[u8], buffer: &mut [u8]) -> Kept {
+    let r = kept.record;
     let got = receive::receive(mframe, r, buffer);
     let answer = got.answer;
-    let after = got.after;
-    let counters = after.counters;
+    let record = got.after;
+    let counters = record.counters;
     say_answer(answer);
-    say_record(after);
+    say_record(record);
     say_counters(counters);
     say_check(buffer);
     say_body(receive::express_body(mframe));
-    say::line_end();
-    after
-}
-
-// The first n octets of the space, as the buffer.
-fn receive_within(mframe: &[u8], r: Record, space: &mut [u8], n: usize) -> Record {
-    if n <= space.len() {
-        return receive_into(mframe, r, &mut space[0..n]);
+    Kept {
+        record,
+        buffer: kept.buffer,
+        went: Went::answered(say::line_end()),
     }
-    r
 }
 
-fn mframe(kept: Kept, space: &mut [u8]) -> Turn {
+fn mframe(kept: Kept, space: &mut [u8]) -> Kept {
     let mut head = [0u8; 2];
     let mut octets = [0u8; 2048];
-    if read::all(&mut head) {
-        let n = read::short(head[0], head[1]);
-        if read::part(&mut octets, n) {
-            let r = kept.record;
-            let room = kept.buffer;
-            return Turn::Go(Kept {
-                record: receive_within(read::front(&octets, n), r, space, room),
-                buffer: room,
-            });
-        }
-    }
-    Turn::Stop
+    let Came::Whole(n) = read::run(&mut head, &mut octets) else {
+        return after(kept, Went::Broken);
+    };
+    receive_into(
+        kept,
+        read::front(&octets, n),
+        read::front_mut(space, kept.buffer),
+    )
 }
 
-fn question(kept: Kept, space: &mut [u8]) -> Turn {
-    let mut first = [0u8; 1];
-    if !read::all(&mut first) {
-        return Turn::Stop;
-    }
-    let kind = first[0];
+fn question(kind: u8, kept: Kept, space: &mut [u8]) -> Kept {
     match kind {
         1 => record(kept),
         2 => buffer(kept, space),
         3 => mframe(kept, space),
-        _ => Turn::Stop,
+        _ => after(kept, Went::Broken),
     }
 }
 
@@ -165,13 +132,15 @@ fn main() {
     let mut kept = Kept {
         record: Record::fresh(),
         buffer: 0,
+        went: Went::start(),
     };
     let mut turns = u32::MAX;
     while turns > 0 {
-        let Turn::Go(next) = question(kept, &mut space) else {
+        let went = kept.went;
+        let Next::Question(kind) = went.next(b"vectors_receive") else {
             return;
         };
-        kept = next;
+        kept = question(kind, kept, &mut space);
         turns -= 1;
     }
 }

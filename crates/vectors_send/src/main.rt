@@ -5,18 +5,21 @@ use codes::FrameCount;
 use cut::Ask;
 use mframe::Answer;
 use questions::read;
+use questions::read::Came;
 use questions::say;
+use questions::went::Next;
+use questions::went::Went;
 use send::Record;
 
-// What is kept from question to question: the record, and how many octets of the lent space are the body.
+// What is kept from question to question: the record, how many octets of the lent space are the body, and how the last one went.
 struct Kept {
     record: Record,
     body: usize,
+    went: Went,
 }
 
-enum Turn {
-    Go(Kept),
-    Stop,
+fn after(kept: Kept, went: Went) -> Kept {
+    Kept { went, ..kept }
 }
 
 // The answer, and the FCS of all of the buffer.
@@ -46,201 +49,134 @@ fn say_record(r: Record) {
     say::small(fragment.0);
 }
 
-fn express_into(body: &[u8], out: &mut [u8]) {
+fn express_into(body: &[u8], out: &mut [u8]) -> bool {
     say::text(b"express");
     say_answer(mframe::express(body, out), out);
-    say::line_end();
+    say::line_end()
 }
 
-fn verify_into(out: &mut [u8]) {
-    say::text(b"verify");
-    say_answer(mframe::verify(out), out);
-    say::line_end();
-}
-
-fn respond_into(out: &mut [u8]) {
+fn order_into(verify: bool, out: &mut [u8]) -> bool {
+    if verify {
+        say::text(b"verify");
+        say_answer(mframe::verify(out), out);
+        return say::line_end();
+    }
     say::text(b"respond");
     say_answer(mframe::respond(out), out);
-    say::line_end();
+    say::line_end()
 }
 
-fn preemptable_into(r: Record, body: &[u8], ask: Ask, out: &mut [u8]) -> Record {
-    say::text(b"preemptable");
+fn preemptable_into(kept: Kept, body: &[u8], ask: Ask, out: &mut [u8]) -> Kept {
+    let r = kept.record;
     let sent = send::preemptable(r, body, ask, out);
     let answer = sent.answer;
-    let after = sent.after;
+    let record = sent.after;
+    say::text(b"preemptable");
     say_answer(answer, out);
-    say_record(after);
-    say::line_end();
-    after
-}
-
-// The first n octets of the space, filled, lent to a call.
-fn express_within(body: &[u8], space: &mut [u8], n: usize, fill: u8) {
-    if n <= space.len() {
-        questions::fill(&mut space[0..n], fill);
-        express_into(body, &mut space[0..n]);
+    say_record(record);
+    Kept {
+        record,
+        body: kept.body,
+        went: Went::answered(say::line_end()),
     }
 }
 
-fn order_within(verify: bool, space: &mut [u8], n: usize, fill: u8) {
-    if n <= space.len() {
-        questions::fill(&mut space[0..n], fill);
-        if verify {
-            verify_into(&mut space[0..n]);
-        } else {
-            respond_into(&mut space[0..n]);
-        }
-    }
-}
-
-fn preemptable_within(
-    r: Record,
-    body: &[u8],
-    ask: Ask,
-    space: &mut [u8],
-    n: usize,
-    fill: u8,
-) -> Record {
-    if n <= space.len() {
-        questions::fill(&mut space[0..n], fill);
-        return preemptable_into(r, body, ask, &mut space[0..n]);
-    }
-    r
-}
-
-fn express() -> bool {
+fn express() -> Went {
     let mut head = [0u8; 5];
     let mut body = [0u8; 2048];
     let mut space = [0u8; 2048];
-    if read::all(&mut head) {
-        let n = read::short(head[0], head[1]);
-        if read::part(&mut body, n) {
-            express_within(
-                read::front(&body, n),
-                &mut space,
-                read::short(head[2], head[3]),
-                head[4],
-            );
-            return true;
-        }
+    let Came::Whole(room) = read::lent(&mut head, &mut space) else {
+        return Went::Broken;
+    };
+    let n = read::short(&head, 0);
+    if !read::part(&mut body, n) {
+        return Went::Broken;
     }
-    false
+    Went::answered(express_into(read::front(&body, n), read::front_mut(&mut space, room)))
 }
 
-fn order(verify: bool) -> bool {
+fn order(verify: bool) -> Went {
     let mut head = [0u8; 3];
     let mut space = [0u8; 2048];
-    if read::all(&mut head) {
-        order_within(verify, &mut space, read::short(head[0], head[1]), head[2]);
-        return true;
-    }
-    false
+    let Came::Whole(room) = read::lent(&mut head, &mut space) else {
+        return Went::Broken;
+    };
+    Went::answered(order_into(verify, read::front_mut(&mut space, room)))
 }
 
-fn record(kept: Kept) -> Turn {
-    let mut head = [0u8; 4];
-    let mut length = [0u8; 8];
-    let mut sent = [0u8; 8];
-    let mut fragment = [0u8; 1];
-    if !read::all(&mut head)
-        || !read::all(&mut length)
-        || !read::all(&mut sent)
-        || !read::all(&mut fragment)
-    {
-        return Turn::Stop;
+fn record(kept: Kept) -> Kept {
+    let mut x = [0u8; 21];
+    if !read::all(&mut x) {
+        return after(kept, Went::Broken);
     }
-    Turn::Go(Kept {
+    Kept {
         record: Record {
-            active: head[0] != 0,
-            hold: head[1] != 0,
-            extra: head[2],
-            next: FrameCount(head[3]),
-            length: read::long(length),
-            sent: read::long(sent),
-            fragment: FragmentCount(fragment[0]),
+            active: x[0] != 0,
+            hold: x[1] != 0,
+            extra: x[2],
+            next: FrameCount(x[3]),
+            length: read::long(&x, 4),
+            sent: read::long(&x, 12),
+            fragment: FragmentCount(x[20]),
         },
         body: kept.body,
-    })
+        went: Went::On,
+    }
 }
 
-fn body(kept: Kept, space: &mut [u8]) -> Turn {
+fn body(kept: Kept, space: &mut [u8]) -> Kept {
     let mut head = [0u8; 2];
-    if read::all(&mut head) {
-        let n = read::short(head[0], head[1]);
-        if read::part(space, n) {
-            let r = kept.record;
-            return Turn::Go(Kept { record: r, body: n });
-        }
-    }
-    Turn::Stop
+    let Came::Whole(n) = read::run(&mut head, space) else {
+        return after(kept, Went::Broken);
+    };
+    Kept { body: n, ..kept }
 }
 
 fn ask_of(asked: u8, t: usize) -> Ask {
     if asked == 0 { Ask::None } else { Ask::At(t) }
 }
 
-fn preemptable(kept: Kept, body: &[u8]) -> Turn {
-    let mut asked = [0u8; 1];
-    let mut t = [0u8; 8];
-    let mut how = [0u8; 3];
+fn preemptable(kept: Kept, body: &[u8]) -> Kept {
+    let mut head = [0u8; 12];
     let mut space = [0u8; 2048];
-    if !read::all(&mut asked) || !read::all(&mut t) || !read::all(&mut how) {
-        return Turn::Stop;
+    let Came::Whole(room) = read::lent(&mut head, &mut space) else {
+        return after(kept, Went::Broken);
+    };
+    preemptable_into(
+        kept,
+        read::front(body, kept.body),
+        ask_of(head[0], read::long(&head, 1)),
+        read::front_mut(&mut space, room),
+    )
+}
+
+fn settings(kept: Kept) -> Kept {
+    let mut x = [0u8; 3];
+    if !read::all(&mut x) {
+        return after(kept, Went::Broken);
     }
     let r = kept.record;
-    let n = kept.body;
-    let ask = ask_of(asked[0], read::long(t));
-    let after = preemptable_within(
-        r,
-        read::front(body, n),
-        ask,
-        &mut space,
-        read::short(how[0], how[1]),
-        how[2],
-    );
-    Turn::Go(Kept {
-        record: after,
-        body: n,
-    })
-}
-
-fn settings(kept: Kept) -> Turn {
-    let mut head = [0u8; 3];
-    if read::all(&mut head) {
-        let r = kept.record;
-        return Turn::Go(Kept {
-            record: Record {
-                active: head[0] != 0,
-                hold: head[1] != 0,
-                extra: head[2],
-                ..r
-            },
-            body: kept.body,
-        });
+    Kept {
+        record: Record {
+            active: x[0] != 0,
+            hold: x[1] != 0,
+            extra: x[2],
+            ..r
+        },
+        ..kept
     }
-    Turn::Stop
 }
 
-fn kept_if(whole: bool, kept: Kept) -> Turn {
-    if whole { Turn::Go(kept) } else { Turn::Stop }
-}
-
-fn question(kept: Kept, space: &mut [u8]) -> Turn {
-    let mut first = [0u8; 1];
-    if !read::all(&mut first) {
-        return Turn::Stop;
-    }
-    let which = first[0];
-    match which {
-        1 => kept_if(express(), kept),
-        2 => kept_if(order(true), kept),
-        3 => kept_if(order(false), kept),
+fn question(kind: u8, kept: Kept, space: &mut [u8]) -> Kept {
+    match kind {
+        1 => after(kept, express()),
+        2 => after(kept, order(true)),
+        3 => after(kept, order(false)),
         4 => record(kept),
         5 => body(kept, space),
         6 => preemptable(kept, space),
         7 => settings(kept),
-        _ => Turn::Stop,
+        _ => after(kept, Went::Broken),
     }
 }
 
@@ -250,13 +186,15 @@ fn main() {
     let mut kept = Kept {
         record: Record::fresh(true, false, 0),
         body: 0,
+        went: Went::start(),
     };
     let mut turns = u32::MAX;
     while turns > 0 {
-        let Turn::Go(next) = question(kept, &mut space) else {
+        let went = kept.went;
+        let Next::Question(kind) = went.next(b"vectors_send") else {
             return;
         };
-        kept = next;
+        kept = question(kind, kept, &mut space);
         turns -= 1;
     }
 }

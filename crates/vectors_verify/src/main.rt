@@ -2,14 +2,17 @@
 // the reference alone.
 use questions::read;
 use questions::say;
+use questions::went::Next;
+use questions::went::Went;
 use verify::Answer;
 use verify::Event;
 use verify::Phase;
 use verify::Record;
 
-enum Turn {
-    Go(Record),
-    Stop,
+// What is kept from question to question: the record, and how the last one went.
+struct Kept {
+    record: Record,
+    went: Went,
 }
 
 fn phase_of(x: u8) -> Phase {
@@ -61,57 +64,66 @@ fn say_record(r: Record) {
     say::small(r.attempt);
     say::small(r.left);
     say::flag(r.owed);
-    say::line_end();
 }
 
-fn record() -> Turn {
+fn after(kept: Kept, went: Went) -> Kept {
+    Kept { went, ..kept }
+}
+
+fn record(kept: Kept) -> Kept {
     let mut x = [0u8; 4];
-    if read::all(&mut x) {
-        return Turn::Go(Record {
+    if !read::all(&mut x) || 3 < x[0] {
+        return after(kept, Went::Broken);
+    }
+    Kept {
+        record: Record {
             phase: phase_of(x[0]),
             attempt: x[1],
             left: x[2],
             owed: x[3] != 0,
-        });
+        },
+        went: Went::On,
     }
-    Turn::Stop
 }
 
-fn event(kept: Record) -> Turn {
+fn event(kept: Kept) -> Kept {
     let mut x = [0u8; 1];
-    if read::all(&mut x) {
-        let stepped = verify::step(kept, event_of(x[0]));
-        let answer = stepped.answer;
-        let after = stepped.after;
-        say_answer(answer);
-        say_record(after);
-        return Turn::Go(after);
+    if !read::all(&mut x) || 6 < x[0] {
+        return after(kept, Went::Broken);
     }
-    Turn::Stop
+    let r = kept.record;
+    let stepped = verify::step(r, event_of(x[0]));
+    let answer = stepped.answer;
+    let record = stepped.after;
+    say_answer(answer);
+    say_record(record);
+    Kept {
+        record,
+        went: Went::answered(say::line_end()),
+    }
 }
 
-fn question(kept: Record) -> Turn {
-    let mut first = [0u8; 1];
-    if !read::all(&mut first) {
-        return Turn::Stop;
-    }
-    let which = first[0];
-    match which {
-        1 => record(),
+fn question(kind: u8, kept: Kept) -> Kept {
+    match kind {
+        1 => record(kept),
         2 => event(kept),
-        _ => Turn::Stop,
+        _ => after(kept, Went::Broken),
     }
 }
 
 // A proved loop has to end, and nothing says that the input does: it counts its turns down from more than any input has.
 fn main() {
-    let mut kept = Record::fresh();
+    let mut kept = Kept {
+        record: Record::fresh(),
+        went: Went::start(),
+    };
     let mut turns = u32::MAX;
     while turns > 0 {
-        let Turn::Go(next) = question(kept) else {
+        let went = kept.went;
+        let Next::Question(kind) = went.next(b"vectors_verify") else {
             return;
         };
-        kept = next;
+        kept = question(kind, kept);
         turns -= 1;
     }
 }

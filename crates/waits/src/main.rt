@@ -4,34 +4,39 @@ use cut::Ask;
 use cut::Part;
 use mframe::Answer;
 use questions::say;
+use questions::went::Went;
 use send::Record;
 
-fn say_length(what: &[u8], answer: Answer) {
+fn say_length(what: &[u8], answer: Answer) -> bool {
     say::text(what);
     match answer {
         Answer::Wrote { length, done: _ } => say::number(length as u64),
         Answer::Refused(_) => say::text(b" refused"),
     }
-    say::line_end();
+    say::line_end()
 }
 
 // The photograph, whole, as a port that isn't active sends it.
-fn whole(body: &[u8], out: &mut [u8]) {
+fn whole(body: &[u8], out: &mut [u8]) -> bool {
     let sent = send::preemptable(Record::fresh(false, false, 0), body, Ask::None, out);
     let answer = sent.answer;
-    say_length(b"photograph whole", answer);
+    say_length(b"photograph whole", answer)
 }
 
 // The photograph, asked at its first octet to make way, the press, and the rest.
-fn broken(body: &[u8], press: &[u8], out: &mut [u8]) {
+fn broken(body: &[u8], press: &[u8], out: &mut [u8]) -> bool {
     let first = send::preemptable(Record::fresh(true, false, 0), body, Ask::At(0), out);
     let answer = first.answer;
     let record = first.after;
-    say_length(b"photograph first", answer);
-    say_length(b"press", mframe::express(press, out));
+    if !say_length(b"photograph first", answer) {
+        return false;
+    }
+    if !say_length(b"press", mframe::express(press, out)) {
+        return false;
+    }
     let rest = send::preemptable(record, body, Ask::None, out);
     let last = rest.answer;
-    say_length(b"photograph rest", last);
+    say_length(b"photograph rest", last)
 }
 
 // The octets of an mFrame behind the ask: what is left of the frame, or the part up to the cut and its check octets.
@@ -72,13 +77,16 @@ fn most(longest: usize) -> usize {
     greater(most, most_of(longest))
 }
 
+fn longest() -> bool {
+    say::text(b"longest wait cut");
+    say::number(most(1522) as u64);
+    say::line_end()
+}
+
 fn main() {
     let body = [0u8; 1518];
     let press = [0u8; 60];
     let mut out = [0u8; 1530];
-    whole(&body, &mut out);
-    broken(&body, &press, &mut out);
-    say::text(b"longest wait cut");
-    say::number(most(1522) as u64);
-    say::line_end();
+    let written = whole(&body, &mut out) && broken(&body, &press, &mut out) && longest();
+    Went::answered(written).goes_on(b"waits");
 }

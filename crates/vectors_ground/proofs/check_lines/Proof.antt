@@ -18,6 +18,9 @@ loop-holds c = omega arith
 check-line-requires : tie.Need-check-line-requires Inv-loop μ-loop
 check-line-requires c κs = search needs
 
+returns : tie.Need-returns Inv-loop μ-loop
+returns c = search needs
+
 add-k : tie.Need-add-k Inv-loop μ-loop
 add-k c = omega arith
 
@@ -30,10 +33,20 @@ loop-again c = omega arith
 check-line-requires-2 : tie.Need-check-line-requires-2 Inv-loop μ-loop
 check-line-requires-2 c κs = search needs
 
-returns : tie.Need-returns Inv-loop μ-loop
-returns c = search needs
+returns-2 : tie.Need-returns-2 Inv-loop μ-loop
+returns-2 c = search needs
 
 pub check-lines-spec : {M : Type 1} → statement M
 check-lines-spec =
     tie.close
-    (tie.spec Inv-loop μ-loop loop-holds check-line-requires add-k loop-less loop-again check-line-requires-2 returns)
+    (tie.spec
+    Inv-loop
+    μ-loop
+    loop-holds
+    check-line-requires
+    returns
+    add-k
+    loop-less
+    loop-again
+    check-line-requires-2
+    returns-2)

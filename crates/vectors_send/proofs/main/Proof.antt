@@ -8,31 +8,40 @@ use Rattle.vectors_send.proofs.main.Statement.{statement}
 use Rattle.vectors_send.proofs.main.Tie as tie
 
 abbrev Inv-loop : tie.InvT-loop
-Inv-loop space₀ kept₀ turns₀ space kept turns = 2048 ≡ length space
+Inv-loop space₀ kept₀ turns₀ t6 space kept turns = 2048 ≡ length space
 
 abbrev μ-loop : tie.MeasureT-loop
-μ-loop space₀ kept₀ turns₀ space kept turns = turns
+μ-loop space₀ kept₀ turns₀ t6 space kept turns = turns
 
 fresh-requires : tie.Need-fresh-requires Inv-loop μ-loop
 fresh-requires c κs = search needs
 
+start-requires : tie.Need-start-requires Inv-loop μ-loop
+start-requires c κs = search needs
+
 loop-holds : tie.Need-loop-holds Inv-loop μ-loop
 loop-holds c = search needs
 
-slice-aggregate-question : tie.Need-slice-aggregate-question Inv-loop μ-loop
-slice-aggregate-question c = search needs
+slice-aggregate-next : tie.Need-slice-aggregate-next Inv-loop μ-loop
+slice-aggregate-next c = search needs
 
-question-requires : tie.Need-question-requires Inv-loop μ-loop
-question-requires c κs = search needs
+next-requires : tie.Need-next-requires Inv-loop μ-loop
+next-requires c κs = search needs
 
-enum-known-next : tie.Need-enum-known-next Inv-loop μ-loop
-enum-known-next c = search needs
+enum-known-kind : tie.Need-enum-known-kind Inv-loop μ-loop
+enum-known-kind c = search needs
 
 enum-told : tie.Need-enum-told Inv-loop μ-loop
 enum-told c = search needs
 
 returns : tie.Need-returns Inv-loop μ-loop
 returns c = search needs
+
+slice-aggregate-question : tie.Need-slice-aggregate-question Inv-loop μ-loop
+slice-aggregate-question c = search needs
+
+question-requires : tie.Need-question-requires Inv-loop μ-loop
+question-requires c κs = search needs
 
 sub-turns : tie.Need-sub-turns Inv-loop μ-loop
 sub-turns c = omega arith
@@ -53,12 +62,15 @@ main-spec =
     Inv-loop
     μ-loop
     fresh-requires
+    start-requires
     loop-holds
-    slice-aggregate-question
-    question-requires
-    enum-known-next
+    slice-aggregate-next
+    next-requires
+    enum-known-kind
     enum-told
     returns
+    slice-aggregate-question
+    question-requires
     sub-turns
     loop-less
     loop-again

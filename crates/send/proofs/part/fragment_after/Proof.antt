@@ -13,7 +13,7 @@ returns : tie.Need-returns
 unfolding fragmentAfter
 returns c =
     let t0 = c .if1 .taken in
-    simp (← (c .before .before .next .ensures), tests)
+    simp tests
 
 returns-2 : tie.Need-returns-2
 unfolding fragmentAfter

@@ -21,13 +21,13 @@ unfolding frameAfter
 returns-2 c =
     let t0 = c .if2 .left in
     let t1 = c .before .if1 .taken in
-    simp (← (c .before .before .before .next .ensures), t0, tests)
+    simp (t0, tests)
 
 returns-3 : tie.Need-returns-3
 unfolding frameAfter
 returns-3 c =
     let t0 = c .if1 .left in
-    simp (← (c .before .before .next .ensures), tests)
+    simp tests
 
 pub frame-after-spec : {M : Type 1} → statement M
 frame-after-spec = tie.close (tie.spec next-requires returns returns-2 returns-3)

@@ -1,6 +1,5 @@
 -- `send::part::moved` meets its contract.
 -- Assumes nothing.
-use Rattle.mframe.proofs.Rules.{tests}
 use borrow.Author.Needs.{needs}
 use Rattle.send.proofs.part.moved.Statement.{statement}
 use Rattle.send.proofs.part.moved.Tie as tie
@@ -13,13 +12,11 @@ fragment-after-requires c κs = search needs
 
 returns : tie.Need-returns
 returns c =
-    let t0 = c .if1 .taken in
-    simp (← (c .before .fragment-after .ensures), ← (c .before .before .frame-after .ensures), t0, tests)
+    simp (← (c .before .before .frame-after .ensures), c .if1 .taken)
 
 returns-2 : tie.Need-returns-2
 returns-2 c =
-    let t0 = c .if1 .left in
-    simp (← (c .before .fragment-after .ensures), ← (c .before .before .frame-after .ensures), t0, tests)
+    simp (← (c .before .fragment-after .ensures), ← (c .before .before .frame-after .ensures), c .if1 .left)
 
 pub moved-spec : {M : Type 1} → statement M
 moved-spec = tie.close (tie.spec frame-after-requires fragment-after-requires returns returns-2)
