@@ -7,7 +7,7 @@ import codes
 import crc
 import cut
 import ground_format as layout
-from reader import Reader
+from reader import answered
 
 
 def check_lines(register, octets):
@@ -90,8 +90,4 @@ def answer_one(reader):
 
 def answers(questions):
     """The whole answer to a run of questions, each line ended by one LF."""
-    reader = Reader(questions)
-    lines = []
-    while not reader.at_end():
-        lines.extend(answer_one(reader))
-    return "".join(line + "\n" for line in lines).encode("ascii")
+    return answered(questions, answer_one)

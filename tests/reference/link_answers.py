@@ -7,7 +7,7 @@ import link
 import link_format as layout
 import receiving
 from digest import digest
-from reader import Reader
+from reader import answered
 
 
 def heard_line(heard):
@@ -34,8 +34,4 @@ def lines(played):
 
 def answers(entries):
     """The whole answer to a run of entries, each line ended by one LF."""
-    reader = Reader(entries)
-    text = []
-    while not reader.at_end():
-        text.extend(lines(link.play(*reader.fields(layout.ENTRY_FIELDS))))
-    return "".join(line + "\n" for line in text).encode("ascii")
+    return answered(entries, lambda reader: lines(link.play(*reader.fields(layout.ENTRY_FIELDS))))

@@ -51,3 +51,12 @@ def lent_memory(room, fill):
     if room > LONGEST_RUN:
         raise ValueError(f"memory of {room} octets is longer than the format allows")
     return bytearray(EVERY_OCTET_IN_TURN[fill:fill + room])
+
+
+def answered(questions, answer_one):
+    """The whole answer to a run of questions, each line ended by one LF; answer_one gives the lines of the next one."""
+    reader = Reader(questions)
+    lines = []
+    while not reader.at_end():
+        lines.extend(answer_one(reader))
+    return "".join(line + "\n" for line in lines).encode("ascii")

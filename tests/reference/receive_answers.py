@@ -6,7 +6,7 @@ The questions are read back from their octets, so that what is stored is what wa
 import receive_format as layout
 import receiving
 from digest import digest
-from reader import Reader, as_flag, lent_memory
+from reader import answered, as_flag, lent_memory
 
 
 def record_words(record):
@@ -48,9 +48,4 @@ class Answering:
 
 def answers(questions):
     """The whole answer to a run of questions, each line ended by one LF."""
-    reader = Reader(questions)
-    answering = Answering()
-    lines = []
-    while not reader.at_end():
-        lines.extend(answering.answer_one(reader))
-    return "".join(line + "\n" for line in lines).encode("ascii")
+    return answered(questions, Answering().answer_one)

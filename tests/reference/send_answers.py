@@ -8,7 +8,7 @@ from dataclasses import replace
 import send_format as layout
 import sending
 from digest import digest
-from reader import Reader, as_flag, lent_memory
+from reader import answered, as_flag, lent_memory
 
 
 def outcome(answer):
@@ -72,9 +72,4 @@ class Answering:
 
 def answers(questions):
     """The whole answer to a run of questions, each line ended by one LF."""
-    reader = Reader(questions)
-    answering = Answering()
-    lines = []
-    while not reader.at_end():
-        lines.extend(answering.answer_one(reader))
-    return "".join(line + "\n" for line in lines).encode("ascii")
+    return answered(questions, Answering().answer_one)

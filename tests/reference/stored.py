@@ -23,6 +23,15 @@ class StoredFile:
     is_text: bool
 
 
+def vectors(crate, questions, answers):
+    """The two files of a vector program: its questions, and what the function `answers` makes of them."""
+    content = b"".join(questions)
+    return [
+        StoredFile(f"crates/{crate}/stdin", content, is_text=False),
+        StoredFile(f"crates/{crate}/stdout", answers(content), is_text=True),
+    ]
+
+
 def first_difference(one, other):
     """The first place at which two runs of octets differ, or None. An end counts as a difference."""
     if one == other:

@@ -11,28 +11,12 @@ from collections import Counter
 import receive_format
 import receive_questions
 import witness
+from by_hand import check, fcs, mcrc, memory
 from receive_answers import answers
 
 
 def answer(hexadecimal):
     return answers(bytes.fromhex(hexadecimal)).decode("ascii")
-
-
-def check(octets):
-    return zlib.crc32(octets).to_bytes(4, "little").hex()
-
-
-def memory(room, fill, written=b"", at=0):
-    before = bytes((fill + place) % 256 for place in range(room))
-    return before[:at] + written + before[at + len(written):]
-
-
-def fcs(octets):
-    return zlib.crc32(octets).to_bytes(4, "little")
-
-
-def mcrc(octets):
-    return (zlib.crc32(octets) ^ 0xFFFF0000).to_bytes(4, "little")
 
 
 DATA = bytes(range(60))

@@ -5,34 +5,16 @@ from document 01, so that the layout itself is tested.
 """
 
 import unittest
-import zlib
 from collections import Counter
 
 import send_format
 import send_questions
+from by_hand import check, fcs, mcrc, memory
 from send_answers import answers
 
 
 def answer(hexadecimal):
     return answers(bytes.fromhex(hexadecimal)).decode("ascii")
-
-
-def check(octets):
-    return zlib.crc32(octets).to_bytes(4, "little").hex()
-
-
-def memory(room, fill, front=b""):
-    """Lent memory with something written to its front."""
-    before = bytes((fill + place) % 256 for place in range(room))
-    return front + before[len(front):]
-
-
-def fcs(octets):
-    return zlib.crc32(octets).to_bytes(4, "little")
-
-
-def mcrc(octets):
-    return (zlib.crc32(octets) ^ 0xFFFF0000).to_bytes(4, "little")
 
 
 BODY = bytes(range(130))

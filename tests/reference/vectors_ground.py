@@ -12,11 +12,7 @@ import stored
 
 
 def files():
-    questions = b"".join(ground_questions.all_questions())
-    return [
-        stored.StoredFile("crates/vectors_ground/stdin", questions, is_text=False),
-        stored.StoredFile("crates/vectors_ground/stdout", ground_answers.answers(questions), is_text=True),
-    ]
+    return stored.vectors("vectors_ground", ground_questions.all_questions(), ground_answers.answers)
 
 
 if __name__ == "__main__":

@@ -12,11 +12,7 @@ import stored
 
 
 def files():
-    entries = b"".join(link_questions.all_questions())
-    return [
-        stored.StoredFile("crates/vectors_link/stdin", entries, is_text=False),
-        stored.StoredFile("crates/vectors_link/stdout", link_answers.answers(entries), is_text=True),
-    ]
+    return stored.vectors("vectors_link", link_questions.all_questions(), link_answers.answers)
 
 
 if __name__ == "__main__":

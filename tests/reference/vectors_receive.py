@@ -12,11 +12,7 @@ import stored
 
 
 def files():
-    questions = b"".join(receive_questions.all_questions())
-    return [
-        stored.StoredFile("crates/vectors_receive/stdin", questions, is_text=False),
-        stored.StoredFile("crates/vectors_receive/stdout", receive_answers.answers(questions), is_text=True),
-    ]
+    return stored.vectors("vectors_receive", receive_questions.all_questions(), receive_answers.answers)
 
 
 if __name__ == "__main__":

@@ -12,11 +12,7 @@ import stored
 
 
 def files():
-    questions = b"".join(send_questions.all_questions())
-    return [
-        stored.StoredFile("crates/vectors_send/stdin", questions, is_text=False),
-        stored.StoredFile("crates/vectors_send/stdout", send_answers.answers(questions), is_text=True),
-    ]
+    return stored.vectors("vectors_send", send_questions.all_questions(), send_answers.answers)
 
 
 if __name__ == "__main__":

@@ -12,11 +12,7 @@ import verify_questions
 
 
 def files():
-    questions = b"".join(verify_questions.all_questions())
-    return [
-        stored.StoredFile("crates/vectors_verify/stdin", questions, is_text=False),
-        stored.StoredFile("crates/vectors_verify/stdout", verify_answers.answers(questions), is_text=True),
-    ]
+    return stored.vectors("vectors_verify", verify_questions.all_questions(), verify_answers.answers)
 
 
 if __name__ == "__main__":

@@ -5,7 +5,7 @@ The questions are read back from their octets, so that what is stored is what wa
 
 import verification
 import verify_format as layout
-from reader import Reader, as_flag
+from reader import answered, as_flag
 
 
 def outcome(answer):
@@ -40,9 +40,4 @@ class Answering:
 
 def answers(questions):
     """The whole answer to a run of questions, each line ended by one LF."""
-    reader = Reader(questions)
-    answering = Answering()
-    lines = []
-    while not reader.at_end():
-        lines.extend(answering.answer_one(reader))
-    return "".join(line + "\n" for line in lines).encode("ascii")
+    return answered(questions, Answering().answer_one)
