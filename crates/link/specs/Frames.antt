@@ -21,7 +21,7 @@ SameToEnd begun (express body octets fate ∷ ms) = SameToEnd begun ms
 SameToEnd begun (part body done octets fate ∷ ms) = Same begun body × SameToEnd (progress done body) ms
 SameToEnd begun (order octets fate ∷ ms) = SameToEnd begun ms
 
--- the fates of the preemptable mFrames, "those of other kinds not counted"
+-- the fates of the preemptable mFrames, "other kinds not counted"
 unfoldable pub fates : List MFrame → List Fate
 fates [] = []
 fates (express body octets fate ∷ ms) = fates ms

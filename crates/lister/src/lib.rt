@@ -8,6 +8,7 @@ use answers::Record;
 use libc::STDERR_FILENO;
 use libc::STDIN_FILENO;
 use libc::STDOUT_FILENO;
+use mframe::BODY_MOST;
 use trace::Cursor;
 use trace::Read;
 ghost use Prim.Native.Nat.{_+_, _≤_};
@@ -72,7 +73,7 @@ fn place_for_line(out: &[u8], waiting: usize) -> Space
 
 // One more read behind what is left in the window, which goes to its front.
 fn refill(s: Standing, window: &mut [u8]) -> Turn {
-    let mut spare = [0u8; 1604];
+    let mut spare = [0u8; ENOUGH];
     let rest = front(part(window, s.from, s.to), ENOUGH);
     let left = rest.len();
     octets::copy_into(rest, &mut spare, 0);
@@ -227,7 +228,7 @@ pub fn run() {
         return;
     }
     let mut window = io::large_buffer();
-    let mut buffer = [0u8; 1518];
+    let mut buffer = [0u8; BODY_MOST];
     let mut out = io::large_buffer();
     let first = begin(&mut out);
     list_all(first, &mut window, &mut buffer, &mut out);

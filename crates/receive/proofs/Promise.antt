@@ -6,7 +6,7 @@ use mathlib.Core.List.{List, []}
 use Prim.Native.Nat.{ℕ, _+_, _-_, _≤_, _<_}
 use native.Mathlib.Nat.{sub-zero}
 use native.Mathlib.Omega.{arith}
-use borrow.Author.Tests.{lt-ltb, le-ltb, ne-eqb}
+use borrow.Author.Tests.{lt-ltb, le-ltb}
 use lib.Dec.{eqb}
 use lib.ListN.{length, take, drop, length-drop}
 use lib.Seq.{length-take-le, take-all}
@@ -22,9 +22,9 @@ use Rattle.answers.specs.declared.Received.{Received}
 use Rattle.answers.specs.Answers.{Said, says, said}
 use Rattle.answers.specs.Records.{fresh, inRange}
 use Rattle.assembly.specs.Steps.{Step, told, unchanged, stepOf}
-use Rattle.receive.specs.Receive.{byHead, receivedOf, upTo, writes, leftOf, dataIn, bufferOf, Answered, Taken, bodyOf}
+use Rattle.receive.specs.Receive.{byHead, receivedOf, upTo, writes, leftOf, dataIn, bufferOf, Answered, Taken, expressDelivered, bodyOf}
 use Rattle.mframe.proofs.Heads.{Good, head-good}
-use Rattle.receive.proofs.Laws.{refused-writes, step-within}
+use Rattle.receive.proofs.Laws.{refused-writes, zero-delivers, step-within}
 
 -- keep
 pub kept : (octets buffer : List ℕ) (end : ℕ) → laid buffer (end - (length octets - 4)) (take (length octets - 4 - 0) octets) ≡ upTo end (dataOf octets) buffer
@@ -117,16 +117,16 @@ none-by false = refl
 pub no-body : (m : List ℕ) {h : Head} {fault : Fault} → reading h ≡ headOf m → h ≡ Refused fault → [] ≡ bodyOf m
 no-body m {fault = fault} read e = sym (body-by m ∙ rw (← read, e) (none-by (eqb (faultNumber fault) 0)))
 
-module _ (m : List ℕ) {h : Head} {kind : Kind} {place : ℕ} (read : reading h ≡ headOf m) (e : h ≡ Known kind place) (got : Received) {number : ℕ} {r : Record}
-    (decided : told got ≡ stepOf kind (take (length m - place) (drop place m)) r) (begun : r ≡ fresh) (numbered : number ≡ said (got .answer) .number) where
-  number-is : stepOf kind (drop place m) fresh .said .number ≡ number
-  number-is = sym (numbered ∙ ap (λ (t : Step). t .said .number) (decided ∙ ap₂ (λ (l : List ℕ) (q : Record). stepOf kind l q) (part m read e) begun))
+module _ (m : List ℕ) {h : Head} {kind : Kind} {place : ℕ} (read : reading h ≡ headOf m) (e : h ≡ Known kind place) {flag : Bool}
+    (tested : flag ≡ expressDelivered kind (take (length m - place) (drop place m))) where
+  zero-is : eqb (stepOf kind (drop place m) fresh .said .number) 0 ≡ flag
+  zero-is = zero-delivers kind (drop place m) ∙ sym (tested ∙ ap (expressDelivered kind) (part m read e))
 
   data-part : take (length m - 4 - place) (drop place m) ≡ dataOf (drop place m)
   data-part = ap (λ (k : ℕ). take k (drop place m)) (let g : length m - 4 - place ≡ length (drop place m) - 4 = omega (arith, length-drop place m) in g)
 
-  pub body : number ≡ 0 → take (length m - 4 - place) (drop place m) ≡ bodyOf m
-  body q = data-part ∙ sym (body-by m ∙ rw (knows m read e, number-is, q) refl)
+  pub body : flag ≡ true → take (length m - 4 - place) (drop place m) ≡ bodyOf m
+  body q = data-part ∙ sym (body-by m ∙ rw (knows m read e, zero-is, q) refl)
 
-  pub other : (number ≡ 0 → ⊥) → [] ≡ bodyOf m
-  other q = sym (body-by m ∙ rw (knows m read e, number-is, ne-eqb number 0 q) refl)
+  pub other : flag ≡ false → [] ≡ bodyOf m
+  other q = sym (body-by m ∙ rw (knows m read e, zero-is, q) refl)

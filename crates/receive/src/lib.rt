@@ -2,6 +2,7 @@
 use answers::Received;
 use answers::Record;
 use answers::Refusal;
+use crc::Ending;
 use mframe::BODY_MOST;
 use mframe::CHECK;
 use mframe::Head;
@@ -10,7 +11,7 @@ ghost use mathlib.Core.Path.{_≡_};
 ghost use Prim.Native.Nat.{_+_, _≤_};
 ghost use lib.ListN.{length};
 ghost use Rattle.crc.specs.Judge.{dataOf};
-ghost use Rattle.receive.specs.Receive.{writes, upTo, Taken, Answered, bodyOf};
+ghost use Rattle.receive.specs.Receive.{writes, upTo, Taken, Answered, isDone, expressDelivered, bodyOf};
 
 // Whether an answer has the data written.
 fn writes(number: u32) -> bool
@@ -61,6 +62,29 @@ pub fn receive(mframe: &[u8], record: Record, buffer: &mut [u8]) -> Received
     }
 }
 
+fn is_done(ending: Ending) -> bool
+    ensures { λ b. ⌜ b ≡ isDone ending ⌝ }
+{
+    match ending {
+        Ending::Done(_) => true,
+        Ending::More(_, _) => false,
+        Ending::Damaged => false,
+    }
+}
+
+// Whether an mFrame of a kind, by its data and check octets, is an express frame that is delivered.
+fn delivers_express(kind: Kind, octets: &[u8]) -> bool
+    ensures { λ b. ⌜ b ≡ expressDelivered kind (now (octets .entry)) ⌝ }
+{
+    match kind {
+        Kind::Express => is_done(crc::judge(crc::ALL_ONES, octets)),
+        Kind::Start(_) => false,
+        Kind::Continuation(_, _) => false,
+        Kind::Verify => false,
+        Kind::Respond => false,
+    }
+}
+
 // The body of an express mFrame, as the caller's own octets; of any other the empty part at its front.
 pub fn express_body(mframe: &[u8]) -> &[u8]
     ensures { λ r. ⌜ now r ≡ bodyOf (now (mframe .entry)) ⌝ }
@@ -68,9 +92,7 @@ pub fn express_body(mframe: &[u8]) -> &[u8]
     let Head::Known(kind, place) = mframe::head_of(mframe) else {
         return &mframe[0..0];
     };
-    let got = assembly::decide(kind, &mframe[place..], Record::fresh());
-    let answer = got.answer;
-    if answer.number() == 0 {
+    if delivers_express(kind, &mframe[place..]) {
         let end = mframe.len() - CHECK;
         return &mframe[place..end];
     }

@@ -28,46 +28,40 @@ returns : tie.Need-returns
 returns c =
     no-body _ (c .before .before .before .head-of .ensures) ((c .before .enum-told .given .1))
 
-sub-decide : tie.Need-sub-decide
-sub-decide c =
+sub-delivers-express : tie.Need-sub-delivers-express
+sub-delivers-express c =
     let p = c .before .before .before in
     let w = spacious (p .before .before .args .mframe .now) (p .head-of .ensures) (c .before .kind .given .1) in
     omega arith
 
-part-decide-start : tie.Need-part-decide-start
-part-decide-start c =
+part-delivers-express-start : tie.Need-part-delivers-express-start
+part-delivers-express-start c =
     let p = c .before .before .before in
     let w = spacious (p .before .before .args .mframe .now) (p .head-of .ensures) (c .before .kind .given .1) in
     search needs
 
-part-decide-end : tie.Need-part-decide-end
-part-decide-end c = search needs
+part-delivers-express-end : tie.Need-part-delivers-express-end
+part-delivers-express-end c = search needs
 
-fresh-requires : tie.Need-fresh-requires
-fresh-requires c κs = search needs
-
-decide-requires : tie.Need-decide-requires
-decide-requires c κs = search needs
-
-number-requires : tie.Need-number-requires
-number-requires c κs = search needs
+delivers-express-requires : tie.Need-delivers-express-requires
+delivers-express-requires c κs = search needs
 
 sub-end : tie.Need-sub-end
 sub-end c =
-    let p = c .before .before .before .before .before .before .before .before in
-    let w = spacious (p .before .before .args .mframe .now) (p .head-of .ensures) (c .before .before .before .before .before .before .kind .given .1) in
+    let p = c .before .before .before .before .before .before in
+    let w = spacious (p .before .before .args .mframe .now) (p .head-of .ensures) (c .before .before .before .before .kind .given .1) in
     omega arith
 
 sub-result-2 : tie.Need-sub-result-2
 sub-result-2 c =
-    let p = c .before .before .before .before .before .before .before .before in
-    let w = spacious (p .before .before .args .mframe .now) (p .head-of .ensures) (c .before .before .before .before .before .before .kind .given .1) in
+    let p = c .before .before .before .before .before .before in
+    let w = spacious (p .before .before .args .mframe .now) (p .head-of .ensures) (c .before .before .before .before .kind .given .1) in
     omega arith
 
 part-result-start-2 : tie.Need-part-result-start-2
 part-result-start-2 c =
-    let p = c .before .before .before .before .before .before .before .before in
-    let w = spacious (p .before .before .args .mframe .now) (p .head-of .ensures) (c .before .before .before .before .before .before .kind .given .1) in
+    let p = c .before .before .before .before .before .before in
+    let w = spacious (p .before .before .args .mframe .now) (p .head-of .ensures) (c .before .before .before .before .kind .given .1) in
     search needs
 
 part-result-end-2 : tie.Need-part-result-end-2
@@ -75,9 +69,8 @@ part-result-end-2 c = search needs
 
 returns-2 : tie.Need-returns-2
 returns-2 c =
-    let d = c .before .before .before in
-    body _ (d .before .before .before .before .before .before .head-of .ensures) (d .before .before .before .before .kind .given .1)
-    (d .decide .result) (d .decide .ensures) (d .before .fresh .ensures) (c .before .before .number .ensures) (c .before .if1 .taken)
+    let d = c .before .before in
+    body _ (d .before .before .before .before .before .head-of .ensures) (d .before .before .before .kind .given .1) (d .delivers-express .ensures) (c .before .if1 .taken)
 
 sub-result-3 : tie.Need-sub-result-3
 sub-result-3 c = search needs
@@ -90,9 +83,8 @@ part-result-end-3 c = search needs
 
 returns-3 : tie.Need-returns-3
 returns-3 c =
-    let d = c .before .before .before in
-    other _ (d .before .before .before .before .before .before .head-of .ensures) (d .before .before .before .before .kind .given .1)
-    (d .decide .result) (d .decide .ensures) (d .before .fresh .ensures) (c .before .before .number .ensures) (c .before .if1 .left)
+    let d = c .before .before in
+    other _ (d .before .before .before .before .before .head-of .ensures) (d .before .before .before .kind .given .1) (d .delivers-express .ensures) (c .before .if1 .left)
 
 pub express-body-spec : {M : Type 1} → statement M
 express-body-spec =
@@ -105,12 +97,10 @@ express-body-spec =
     part-result-start
     part-result-end
     returns
-    sub-decide
-    part-decide-start
-    part-decide-end
-    fresh-requires
-    decide-requires
-    number-requires
+    sub-delivers-express
+    part-delivers-express-start
+    part-delivers-express-end
+    delivers-express-requires
     sub-end
     sub-result-2
     part-result-start-2
