@@ -5,10 +5,11 @@ use mathlib.Core.Bool.{cond}
 use mathlib.Core.List.{List}
 use Prim.Native.Nat.{ℕ}
 use lib.Dec.{eqb}
-use Rattle.trace.specs.Trace.{front, Said, found, ended, refused, said, readAt}
+use Rattle.trace.specs.Trace.{front, Said, found, ended, refused, refusalNumber, said, readAt}
 use Rattle.trace.specs.declared.Cursor.{Cursor}
 use Rattle.trace.specs.declared.Read.{Read}
 use Rattle.trace.specs.declared.Read.the-variants.{Record, End, Refused}
+use Rattle.trace.specs.declared.Refusal.{Refusal}
 use Rattle.trace.specs.declared.Refusal.the-variants.{Header, Length, Kind, Content}
 
 -- no two answers are said alike: what is said gives the answer back
@@ -24,6 +25,10 @@ back (Refused Header) = refl
 back (Refused Length) = refl
 back (Refused Kind) = refl
 back (Refused Content) = refl
+
+-- Refusal::number
+pub number-once : (q : Refusal) {x y : ℕ} → x ≡ refusalNumber q → y ≡ refusalNumber q → x ≡ y
+number-once q p s = p ∙ sym s
 
 -- Cursor::new
 pub new-once : {x y : Cursor} → x ≡ front → y ≡ front → x ≡ y

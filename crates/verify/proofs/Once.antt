@@ -18,7 +18,7 @@ back : (a : Answer) → unsaid (said a) ≡ a
 back (Taken v) = refl
 back Refused = refl
 
-pub said-once : (a b : Answer) → said a ≡ said b → a ≡ b
+said-once : (a b : Answer) → said a ≡ said b → a ≡ b
 said-once a b e = sym (back a) ∙ ap unsaid e ∙ back b
 
 -- Record::fresh
