@@ -1,6 +1,5 @@
 -- What an octet says is small: counts under 4, and the bits of an unknown delimiter eight at most.
 -- Assumes nothing.
-use mathlib.Core.Bool.{Bool, true, false, cond}
 use mathlib.Core.List.{List, [], _∷_}
 use Prim.Native.Nat.{ℕ, _≤_, _<_}
 use native.Mathlib.Omega.{arith}
@@ -10,6 +9,7 @@ use Rattle.codes.specs.declared.Delimiter.{Delimiter}
 use Rattle.codes.specs.declared.Delimiter.the-variants as D
 use Rattle.codes.specs.declared.Fragment.{Fragment}
 use Rattle.codes.specs.declared.Fragment.the-variants as F
+use Rattle.rules.proofs.Tests.{chosen}
 use Rattle.codes.proofs.Bits.{least-eight}
 
 -- what holds of each meaning of a table, and of the other, holds of what an octet says
@@ -17,16 +17,11 @@ abbrev All : {A : Type 0} → (A → Type 0) → List A → Type 0
 All P [] = Unit {0}
 All P (x ∷ xs) = P x × All P xs
 
--- what holds of both holds of the one that a test takes
-pub either : {A : Type 0} (P : A → Type 0) (b : Bool) (x y : A) → P x → P y → P (cond b x y)
-either P true x y p q = p
-either P false x y p q = q
-
 meant : {A : Type 0} (P : A → Type 0) (x : ℕ) (cs : List ℕ) (ms : List A) (other : A) → All P ms → P other → P (meaning x cs ms other)
 unfolding meaning
 meant P x [] ms other ps p = p
 meant P x (c ∷ cs) [] other ps p = p
-meant P x (c ∷ cs) (m ∷ ms) other ps p = either P (eqb x c) m _ (ps .0) (meant P x cs ms other (ps .1) p)
+meant P x (c ∷ cs) (m ∷ ms) other ps p = chosen P (eqb x c) m _ (ps .0) (meant P x cs ms other (ps .1) p)
 
 abbrev pub Small : Delimiter → Type 0
 Small D.Express = Unit {0}

@@ -9,6 +9,7 @@ use borrow.Author.Tests.{eq-eqb, eqb-true}
 use lib.Dec.{T, eqb}
 use lib.ListN.{length, length-append, length-drop}
 use lib.Seq.{take-at, drop-at}
+use Rattle.rules.proofs.Tests.{both}
 use Rattle.crc.specs.Crc.{registerOver, fcsOf, mcrcOf}
 use Rattle.crc.specs.Judge.{dataOf, lastFour, same, decided, endingOf}
 use Rattle.crc.specs.declared.Ending.{Ending}
@@ -16,10 +17,6 @@ use Rattle.crc.specs.declared.Ending.the-variants.{Done, More, Damaged}
 use Rattle.crc.proofs.Laws.{fcs-length, mcrc-length, fcs-not-mcrc}
 
 -- the test of two lists says what it should
-both : (a b : Bool) → (a && b) ≡ true → (a ≡ true) × (b ≡ true)
-both true b e = (refl, e)
-both false b e = (e, absurd (subst (λ (t : Bool). T (not t)) e tt))
-
 same-self : (xs : List ℕ) → same xs xs ≡ true
 unfolding same
 same-self [] = refl

@@ -9,7 +9,8 @@ use borrow.Author.Tests.{ltb-false}
 use lib.Dec.{eqb, ltb}
 use lib.ListN.{length, take, getD}
 use Rattle.codes.specs.Codes.{delimiterOf, fragmentOf}
-use Rattle.codes.proofs.Sizes.{either, Small, delimiter-small, SmallFragment, fragment-small}
+use Rattle.rules.proofs.Tests.{chosen}
+use Rattle.codes.proofs.Sizes.{Small, delimiter-small, SmallFragment, fragment-small}
 use Rattle.codes.specs.declared.Delimiter.{Delimiter}
 use Rattle.codes.specs.declared.Delimiter.the-variants as D
 use Rattle.codes.specs.declared.Fragment.{Fragment}
@@ -90,8 +91,8 @@ head-good m = go (ltb (length m) 72) (ltb 1530 (length m)) refl refl
         let high = ltb-false _ _ q in
         let x : ℕ = getD m 6 0 in
         let y : ℕ = getD m 7 0 in
-        either (Good (length m)) (all55 (take 6 m)) (placedOf m) (refused 14 0)
-        (either (Good (length m)) (eqb x 0x55) (sevenOf (delimiterOf y)) (sixOf (delimiterOf x) (fragmentOf y))
+        chosen (Good (length m)) (all55 (take 6 m)) (placedOf m) (refused 14 0)
+        (chosen (Good (length m)) (eqb x 0x55) (sevenOf (delimiterOf y)) (sixOf (delimiterOf x) (fragmentOf y))
         (good-seven (length m) low high (delimiterOf y) (delimiter-small y))
         (good-six (length m) low high (delimiterOf x) (fragmentOf y) (delimiter-small x) (fragment-small y)))
         n14

@@ -2,7 +2,6 @@ pub mod Once
 pub mod Packed
 pub mod Part
 pub mod Received
-pub mod Rules
 pub mod Sent
 pub mod Short
 pub mod Stepped

@@ -19,7 +19,7 @@ use Rattle.seatport.specs.Words.{flag, isFlag, isCount}
 use Rattle.seatport.specs.Sending.{senderWords, senderFits, senderOf, askOf, told, unfit, sendingOf}
 use Rattle.seatport.specs.Receiving.{receiverWords, receiverFits, receiverOf}
 use Rattle.seatport.specs.Verifying.{phaseNumber, phaseOf, linkWords, linkFits, linkOf}
-use Rattle.seatport.proofs.Rules.{both}
+use Rattle.rules.proofs.Tests.{both}
 
 -- flags and phases
 flag-read : (b : Bool) → eqb (flag b) 1 ≡ b

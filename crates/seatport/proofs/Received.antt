@@ -10,7 +10,6 @@ use lib.Dec.{ltb}
 use lib.ListN.{length, drop, length-drop}
 use Rattle.codes.specs.declared.FrameCount.{FrameCount}
 use Rattle.codes.specs.declared.FragmentCount.{FragmentCount}
-use Rattle.codes.proofs.Sizes.{either}
 use Rattle.crc.specs.Crc.{allOnes}
 use Rattle.crc.specs.Judge.{endingOf}
 use Rattle.crc.specs.declared.Ending.{Ending}
@@ -29,7 +28,7 @@ use Rattle.receive.specs.Receive.{byHead, receivedOf, Answered}
 use Rattle.seatport.specs.Words.{word, isFlag, isCount}
 use Rattle.seatport.specs.Receiving.{receiverWords, receiverFits}
 use Rattle.seatport.specs.Receiving as S
-use Rattle.seatport.proofs.Rules.{both}
+use Rattle.rules.proofs.Tests.{both, chosen}
 
 -- a step whose detail and octets kept fit words
 pub record Fits (p : Step) : Type 0 where
@@ -39,7 +38,7 @@ pub record Fits (p : Step) : Type 0 where
 module _ (r : Record) (k : r .kept < 2 ^ 32) where
   unchanged-fits : (number detail : ℕ) → detail ≤ 1518 → Fits (unchanged (says number detail) r)
   unchanged-fits number detail h =
-      record { detail = omega (arith, h); kept = either (λ (q : Record). q .kept < 2 ^ 32) (delimiterError number) (counting (strayed (r .counters)) r) r k k }
+      record { detail = omega (arith, h); kept = chosen (λ (q : Record). q .kept < 2 ^ 32) (delimiterError number) (counting (strayed (r .counters)) r) r k k }
 
   module _ (s : List ℕ) (h : length s ≤ 1522) where
     express-fits : (e : Ending) → Ends allOnes s e → Fits (expressOf e r)
@@ -87,8 +86,8 @@ module _ (r : Record) (k : r .kept < 2 ^ 32) where
   pub received-fits : (m : List ℕ) (room : ℕ) → Fits (receivedOf m r room)
   unfolding receivedOf
   received-fits m room =
-      either Fits (ltb room 1518) (unchanged (says 10 0) r) _ (unchanged-fits 10 0 (omega arith))
-      (either Fits (not (inRange r)) (unchanged (says 11 0) r) (byHead (headOf m) m r) (unchanged-fits 11 0 (omega arith))
+      chosen Fits (ltb room 1518) (unchanged (says 10 0) r) _ (unchanged-fits 10 0 (omega arith))
+      (chosen Fits (not (inRange r)) (unchanged (says 11 0) r) (byHead (headOf m) m r) (unchanged-fits 11 0 (omega arith))
       (head-fits m (headOf m) (head-good m)))
 
 -- what nine words that are a record's have

@@ -12,7 +12,7 @@ use Rattle.send.specs.declared.Sending.{Sending}
 use Rattle.seatport.specs.Words.{word, isFlag, isCount}
 use Rattle.seatport.specs.Sending.{numberOf, writtenOf, Wrote, senderWords, senderFits, told}
 use Rattle.seatport.specs.Sending as S
-use Rattle.seatport.proofs.Rules.{both}
+use Rattle.rules.proofs.Tests.{both}
 
 pub wrote-words : {o : Outcome} {out out′ written : List ℕ} {a : Answer} {number : ℕ} → Answered o out a out′
     → number ≡ numberOf (said a) → written ≡ writtenOf (said a) → Wrote o out number written out′

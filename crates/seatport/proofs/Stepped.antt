@@ -11,7 +11,7 @@ use Rattle.verify.specs.declared.Stepped.{Stepped}
 use Rattle.seatport.specs.Words.{flag, word, isCount}
 use Rattle.seatport.specs.Verifying.{linkWords, linkFits, Taken}
 use Rattle.seatport.specs.Verifying as S
-use Rattle.seatport.proofs.Rules.{both}
+use Rattle.rules.proofs.Tests.{both}
 
 -- what four words that are a record's have
 pub counts-known : (w : List ℕ) (event : ℕ) → linkFits w event ≡ true → (word w 1 ≤ 255) × (word w 2 ≤ 255)

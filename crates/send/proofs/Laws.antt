@@ -10,6 +10,7 @@ use native.Mathlib.Omega.{arith}
 use borrow.Author.Tests.{eqb-true, leb-true, le-leb, ltb-false, ne-eqb, not-false}
 use lib.Dec.{eqb, leb, ltb}
 use lib.ListN.{length}
+use Rattle.rules.proofs.Tests.{both, either, neither}
 use Rattle.codes.specs.Codes.{fragment, nextFrame, nextFragment}
 use Rattle.codes.specs.declared.FrameCount.{FrameCount}
 use Rattle.codes.specs.declared.FragmentCount.{FragmentCount}
@@ -32,19 +33,7 @@ pub part-inactive : (r : Record) (n : ℕ) (ask : Ask) → r .active ≡ false �
 unfolding partNow
 part-inactive r n ask e = simp e
 
--- tests of tests
-both : (a b : Bool) → (a && b) ≡ true → (a ≡ true) × (b ≡ true)
-both true b e = (refl, e)
-both false b e = absurd (false≢true e)
-
-either : (a b : Bool) → (a || b) ≡ true → (a ≡ true) ⊎ (b ≡ true)
-either true b e = inl refl
-either false b e = inr e
-
-neither : (a b : Bool) → (a || b) ≡ false → (a ≡ false) × (b ≡ false)
-neither true b e = absurd (false≢true (sym e))
-neither false b e = (refl, e)
-
+-- a length that is not 0 and does not differ from another is that one
 same-or : (a b : Bool) → (not a && not b) ≡ false → a ≡ false → b ≡ true
 same-or true b e f = absurd (false≢true (sym f))
 same-or false true e f = refl

@@ -5,12 +5,11 @@ use mathlib.Core.Bool.{Bool, true, false, cond, not}
 use mathlib.Core.List.{List}
 use Prim.Native.Nat.{ℕ, _+_, _≤_, _<_}
 use native.Mathlib.Omega.{arith}
-use borrow.Author.Tests.{ltb-false, lt-ltb, le-ltb, eq-eqb, ne-eqb}
+use borrow.Author.Tests.{ltb-false}
 use lib.Dec.{ltb, eqb}
 use lib.ListN.{length}
+use Rattle.rules.proofs.Tests.{tests, never}
 use Rattle.trace.specs.Trace.{header, limit, kind, Said, found, ended, refused, lengthAt, kindAt, left, readAt}
-
-ruleset tests = (lt-ltb, le-ltb, eq-eqb, ne-eqb)
 
 -- the answers, in the order of the tests
 module _ (s : List ℕ) (at : ℕ) where
@@ -52,10 +51,6 @@ pub record Inside (s : List ℕ) (at place n next : ℕ) : Type 0 where
   pub next-behind : next ≡ place + n
   pub inside : next ≤ length s
   pub within : n ≤ limit
-
--- two answers that differ are not the same
-pub never : {A : Type 0} → _≡_ {A = ℕ} 0 1 → A
-never z = absurd (let y : ⊥ = omega arith in y)
 
 passed : (e h l k d : Bool) (x : Said) (place n next : ℕ)
     → cond e ended (cond h (refused 50) (cond l (refused 51) (cond k (refused 52) (cond d (refused 53) x)))) ≡ found place n next

@@ -9,6 +9,7 @@ use native.Mathlib.Decide.{decLt}
 use native.Mathlib.Omega.{arith}
 use lib.Dec.{ltb}
 use borrow.Author.Tests.{lt-ltb, le-ltb}
+use Rattle.rules.proofs.Tests.{by-test, never}
 use Rattle.verify.specs.Verify.{wait, attempts, fresh, isOff, isTrying, counted, inRange, Told, rests, tries, owing, effect, stepOf}
 use Rattle.verify.specs.Histories.{recordAfter, is, one, times, verifies, begins, beginnings, HeardInTrying}
 use Rattle.verify.specs.declared.Phase.{Phase}
@@ -16,7 +17,7 @@ use Rattle.verify.specs.declared.Phase.the-variants.{Off, Trying, Verifi
 use Rattle.verify.specs.declared.Record.{Record}
 use Rattle.verify.specs.declared.Event.{Event}
 use Rattle.verify.specs.declared.Event.the-variants.{Enable, Disable, LinkFailed, ResponseHeard, VerifyHeard, ResponseSent, Millisecond}
-use Rattle.verify.proofs.Laws.{step-taken, step-refused, by-test, by-tick, running, in-range-kept, step-in-range}
+use Rattle.verify.proofs.Laws.{step-taken, step-refused, by-tick, running, in-range-kept, step-in-range}
 
 -- the record after no event, after a first one, and after two histories
 after-none : (r : Record) → recordAfter r [] ≡ r
@@ -173,9 +174,6 @@ Came r e = ((r .phase ≡ Verified) × (one (is Disable e) + one (is LinkFailed 
 
 abbrev Comes : Record → Event → Told → Type 0
 Comes r e t = t .after .phase ≡ Verified → Came r e
-
-never : {A : Type 0} → _≡_ {A = ℕ} 0 1 → A
-never z = absurd (let y : ⊥ = omega arith in y)
 
 is-trying : (p : Phase) → isTrying p ≡ true → p ≡ Trying
 is-trying Off t = absurd (false≢true t)

@@ -1,11 +1,12 @@
 -- Laws of the table of events: its cases, and that every event keeps the ranges.
 -- Assumes nothing.
 use mathlib.Core.Path.{_≡_, refl}
-use mathlib.Core.Bool.{Bool, true, false, cond, _&&_, false≢true}
+use mathlib.Core.Bool.{true, false}
 use Prim.Native.Nat.{_+_, _-_, _≤_, _<_}
 use native.Mathlib.Decide.{decLt}
 use native.Mathlib.Omega.{arith}
 use borrow.Author.Tests.{leb-true, le-leb, lt-ltb, le-ltb, eq-eqb, ne-eqb}
+use Rattle.rules.proofs.Tests.{both, by-test}
 use Rattle.verify.specs.Verify.{wait, attempts, isOff, isTrying, counted, inRange, Told, takes, rests, tries, atZero, oneLess, effect, refuses, stepOf}
 use Rattle.verify.specs.declared.Phase.the-variants.{Failed}
 use Rattle.verify.specs.declared.Record.{Record}
@@ -34,11 +35,7 @@ pub gives-up : (r : Record) → r .left ≤ 1 → attempts ≤ r .attempt → on
 unfolding oneLess atZero
 gives-up r h k = simp (eq-eqb (r .left - 1) 0 (omega arith), le-ltb _ _ k)
 
--- what holds in each case of a row holds of the row
-pub by-test : (P : Told → Type 0) (b : Bool) {x y : Told} → (b ≡ true → P x) → (b ≡ false → P y) → P (cond b x y)
-by-test P true f g = f refl
-by-test P false f g = g refl
-
+-- what holds in each case of a millisecond holds of it
 pub by-tick : (P : Told → Type 0) (r : Record)
     → (1 < r .left → P (takes (tries (r .attempt) (r .left - 1) r) false))
     → (r .left ≤ 1 → r .attempt < attempts → P (takes (tries (r .attempt + 1) wait r) true))
@@ -59,10 +56,6 @@ pub record Running (r : Record) : Type 0 where
   pub last : r .attempt ≤ attempts
   pub some : 1 ≤ r .left
   pub most : r .left ≤ wait
-
-both : (a b : Bool) → (a && b) ≡ true → (a ≡ true) × (b ≡ true)
-both true b h = (refl, h)
-both false b h = absurd (false≢true h)
 
 counted-running : (r : Record) → counted 1 attempts wait r ≡ true → Running r
 unfolding counted

@@ -1,6 +1,6 @@
 -- `assembly::counts_of` meets its contract.
 -- Assumes nothing.
-use Rattle.mframe.proofs.Rules.{tests}
+use Rattle.rules.proofs.Tests.{tests}
 use Rattle.assembly.proofs.counts_of.Statement.{statement}
 use Rattle.assembly.proofs.counts_of.Tie as tie
 

@@ -1,7 +1,7 @@
 -- `answers::Record::in_range` meets its contract.
 -- Assumes nothing.
 use Rattle.answers.specs.Records.{inRange}
-use Rattle.mframe.proofs.Rules.{tests}
+use Rattle.rules.proofs.Tests.{tests}
 use Rattle.answers.proofs.Record.in_range.Statement.{statement}
 use Rattle.answers.proofs.Record.in_range.Tie as tie
 

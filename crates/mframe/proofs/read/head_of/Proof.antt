@@ -2,7 +2,7 @@
 -- Assumes nothing.
 use Rattle.mframe.specs.Head.{headOf}
 use mathlib.Core.Path.{sym, _∙_}
-use Rattle.mframe.proofs.Rules.{tests}
+use Rattle.rules.proofs.Tests.{tests}
 use borrow.Author.Needs.{needs}
 use Rattle.mframe.proofs.read.head_of.Statement.{statement}
 use Rattle.mframe.proofs.read.head_of.Tie as tie

@@ -7,7 +7,7 @@ use Rattle.mframe.specs.Octets.{mFrameOf}
 use Rattle.mframe.specs.Sending.{expressOf}
 use Rattle.mframe.specs.declared.Kind.the-variants.{Express}
 use Rattle.mframe.proofs.Answers.{written}
-use Rattle.mframe.proofs.Rules.{tests}
+use Rattle.rules.proofs.Tests.{tests}
 use Rattle.mframe.proofs.write.express.Statement.{statement}
 use Rattle.mframe.proofs.write.express.Tie as tie
 

@@ -6,7 +6,7 @@ use Rattle.crc.specs.Crc.{mcrcOf}
 use Rattle.mframe.specs.Octets.{mFrameOf}
 use Rattle.mframe.specs.Sending.{zeros, orderOf}
 use Rattle.mframe.proofs.Answers.{written}
-use Rattle.mframe.proofs.Rules.{tests}
+use Rattle.rules.proofs.Tests.{tests}
 use Rattle.mframe.proofs.write.order.Statement.{statement}
 use Rattle.mframe.proofs.write.order.Tie as tie
 

@@ -1,7 +1,7 @@
 -- `seatport::receiving::receiver_fits` meets its contract.
 -- Assumes nothing.
 use Rattle.seatport.specs.Receiving.{receiverFits}
-use Rattle.seatport.proofs.Rules.{tests}
+use Rattle.rules.proofs.Tests.{tests}
 use borrow.Author.Needs.{needs}
 use Rattle.seatport.proofs.receiving.receiver_fits.Statement.{statement}
 use Rattle.seatport.proofs.receiving.receiver_fits.Tie as tie

@@ -4,7 +4,7 @@ use mathlib.Core.Path.{refl, sym, subst, _∙_}
 use Prim.Native.Nat.{ℕ, _<_, _^_}
 use lib.ListN.{length}
 use Rattle.seatport.specs.Receiving.{receivingOf}
-use Rattle.seatport.proofs.Rules.{tests}
+use Rattle.rules.proofs.Tests.{tests}
 use Rattle.seatport.proofs.Received.{Fits, received-fits, received-words}
 use borrow.Author.Needs.{needs}
 use Rattle.seatport.proofs.receiving.seatport_receive.Statement.{statement}

@@ -1,6 +1,6 @@
 -- `seatport::sending::ask_of` meets its contract.
 -- Assumes nothing.
-use Rattle.seatport.proofs.Rules.{tests}
+use Rattle.rules.proofs.Tests.{tests}
 use Rattle.seatport.proofs.sending.ask_of.Statement.{statement}
 use Rattle.seatport.proofs.sending.ask_of.Tie as tie
 

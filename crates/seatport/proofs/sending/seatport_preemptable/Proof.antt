@@ -2,7 +2,7 @@
 -- Assumes nothing.
 use mathlib.Core.Path.{refl, sym, subst, _∙_}
 use Rattle.seatport.specs.Sending.{Short, sendingOf}
-use Rattle.seatport.proofs.Rules.{tests}
+use Rattle.rules.proofs.Tests.{tests}
 use Rattle.seatport.proofs.Sent.{sent-words}
 use Rattle.seatport.proofs.Short.{Fits, sent-short, after-short}
 use borrow.Author.Needs.{needs}

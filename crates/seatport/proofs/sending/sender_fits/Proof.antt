@@ -1,7 +1,7 @@
 -- `seatport::sending::sender_fits` meets its contract.
 -- Assumes nothing.
 use Rattle.seatport.specs.Sending.{senderFits}
-use Rattle.seatport.proofs.Rules.{tests}
+use Rattle.rules.proofs.Tests.{tests}
 use borrow.Author.Needs.{needs}
 use Rattle.seatport.proofs.sending.sender_fits.Statement.{statement}
 use Rattle.seatport.proofs.sending.sender_fits.Tie as tie

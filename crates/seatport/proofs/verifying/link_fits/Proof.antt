@@ -1,7 +1,7 @@
 -- `seatport::verifying::link_fits` meets its contract.
 -- Assumes nothing.
 use Rattle.seatport.specs.Verifying.{linkFits}
-use Rattle.seatport.proofs.Rules.{tests}
+use Rattle.rules.proofs.Tests.{tests}
 use borrow.Author.Needs.{needs}
 use Rattle.seatport.proofs.verifying.link_fits.Statement.{statement}
 use Rattle.seatport.proofs.verifying.link_fits.Tie as tie

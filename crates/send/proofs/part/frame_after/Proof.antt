@@ -1,7 +1,7 @@
 -- `send::part::frame_after` meets its contract.
 -- Assumes nothing.
 use Rattle.send.specs.Preemptable.{frameAfter}
-use Rattle.mframe.proofs.Rules.{tests}
+use Rattle.rules.proofs.Tests.{tests}
 use borrow.Author.Needs.{needs}
 use Rattle.send.proofs.part.frame_after.Statement.{statement}
 use Rattle.send.proofs.part.frame_after.Tie as tie

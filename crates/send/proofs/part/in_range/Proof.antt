@@ -1,7 +1,7 @@
 -- `send::part::in_range` meets its contract.
 -- Assumes nothing.
 use Rattle.send.specs.Record.{inRange}
-use Rattle.mframe.proofs.Rules.{tests}
+use Rattle.rules.proofs.Tests.{tests}
 use borrow.Author.Needs.{needs}
 use Rattle.send.proofs.part.in_range.Statement.{statement}
 use Rattle.send.proofs.part.in_range.Tie as tie

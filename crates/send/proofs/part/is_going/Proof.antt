@@ -3,7 +3,7 @@
 use Prim.Native.Nat.{_+_, _≤_, _<_}
 use native.Mathlib.Omega.{arith}
 use Rattle.send.specs.Record.{going}
-use Rattle.mframe.proofs.Rules.{tests}
+use Rattle.rules.proofs.Tests.{tests}
 use Rattle.send.proofs.part.is_going.Statement.{statement}
 use Rattle.send.proofs.part.is_going.Tie as tie
 

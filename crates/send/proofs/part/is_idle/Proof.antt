@@ -1,7 +1,7 @@
 -- `send::part::is_idle` meets its contract.
 -- Assumes nothing.
 use Rattle.send.specs.Record.{idle}
-use Rattle.mframe.proofs.Rules.{tests}
+use Rattle.rules.proofs.Tests.{tests}
 use Rattle.send.proofs.part.is_idle.Statement.{statement}
 use Rattle.send.proofs.part.is_idle.Tie as tie
 

@@ -2,7 +2,7 @@
 -- Assumes nothing.
 use borrow.Author.Needs.{needs}
 use Rattle.send.specs.Preemptable.{kindOf}
-use Rattle.mframe.proofs.Rules.{tests}
+use Rattle.rules.proofs.Tests.{tests}
 use Rattle.send.proofs.part.kind.Statement.{statement}
 use Rattle.send.proofs.part.kind.Tie as tie
 

@@ -1,7 +1,7 @@
 -- `send::part::other_length` meets its contract.
 -- Assumes nothing.
 use Rattle.send.specs.Record.{differs}
-use Rattle.mframe.proofs.Rules.{tests}
+use Rattle.rules.proofs.Tests.{tests}
 use Rattle.send.proofs.part.other_length.Statement.{statement}
 use Rattle.send.proofs.part.other_length.Tie as tie
 

@@ -1,7 +1,7 @@
 -- `send::part::rule` meets its contract.
 -- Assumes nothing.
 use Rattle.send.specs.Preemptable.{refusalOf}
-use Rattle.mframe.proofs.Rules.{tests}
+use Rattle.rules.proofs.Tests.{tests}
 use borrow.Author.Needs.{needs}
 use Rattle.send.proofs.part.rule.Statement.{statement}
 use Rattle.send.proofs.part.rule.Tie as tie
