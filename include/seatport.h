@@ -88,15 +88,15 @@ enum seatport_answer {
 	SEATPORT_EXPRESS = 0,         /* express delivered; detail: body length. seatport_express_body says where it is */
 	SEATPORT_PREEMPTABLE = 1,     /* preemptable delivered; detail: body length. The body is at the buffer's front */
 	SEATPORT_FRAGMENT = 2,        /* fragment kept; detail: octets kept so far */
-	SEATPORT_VERIFY_HEARD = 3,    /* a V: hand it to seatport_event */
-	SEATPORT_RESPOND_HEARD = 4,   /* an R: hand it to seatport_event */
+	SEATPORT_VERIFY_HEARD = 3,    /* a V: tell seatport_step */
+	SEATPORT_RESPOND_HEARD = 4,   /* an R: tell seatport_step */
 	SEATPORT_BUFFER_SHORT = 10,   /* refused: buffer under SEATPORT_ASSEMBLY octets */
 	SEATPORT_RECEIVER_BAD = 11,   /* refused: receiving record outside its ranges */
 	SEATPORT_TOO_SHORT = 12,      /* refused: under SEATPORT_MFRAME_MIN octets */
 	SEATPORT_TOO_LONG = 13,       /* refused: over SEATPORT_MFRAME_MAX octets */
 	SEATPORT_PREAMBLE_BAD = 14,   /* refused: one of places 0 to 5 is not 55 */
 	SEATPORT_DELIMITER_BAD = 15,  /* refused; detail: the least number of bits to any of the eleven delimiters */
-	SEATPORT_DELIMITER_AT = 16,   /* refused: delimiter out of place */
+	SEATPORT_DELIMITER_MISPLACED = 16, /* refused: delimiter out of place */
 	SEATPORT_FRAGMENT_BAD = 17,   /* refused: unknown fragment code */
 	SEATPORT_EXPRESS_DAMAGED = 20, /* dropped: express, FCS wrong */
 	SEATPORT_ORDER_DAMAGED = 21,  /* dropped: V or R, mCRC wrong */
@@ -148,7 +148,7 @@ enum seatport_event {
 	SEATPORT_MILLISECOND = 6
 };
 
-/* What seatport_event returns. */
+/* What seatport_step returns. */
 enum seatport_stepped {
 	SEATPORT_STEPPED = 0,
 	SEATPORT_LINK_BAD = 40 /* record outside its ranges, or no such event: nothing changed */
