@@ -184,7 +184,7 @@ static void receive_questions(void)
 			       r.assembled, r.fragments);
 			print_check(buffer, room);
 			length = plain_express_body(mframe, n, &start);
-			printf(" %zu ", length);
+			printf(" %zu %zu ", start, length);
 			print_check(mframe + start, length);
 			putchar('\n');
 			break;

@@ -27,7 +27,7 @@ class Answering:
         answer, self.record = receiving.receive(self.memory, self.record, octets)
         begin, length = receiving.express_body(octets)
         return (f"{answer.number} {answer.detail} {record_words(self.record)} {digest(self.memory)}"
-                f" {length} {digest(octets[begin:begin + length])}")
+                f" {begin} {length} {digest(octets[begin:begin + length])}")
 
     def answer_one(self, reader):
         """The lines that answer the next question: one, or none where it only sets what is kept."""

@@ -39,12 +39,12 @@ class Answers(unittest.TestCase):
 
     def test_express(self):
         self.assertEqual(answer(FRESH + BUFFER + mframe("55555555555555D5", DATA, fcs(DATA))),
-                         f"0 60 0 0 0 0 00000000 0 0 0 0 {UNTOUCHED} 60 {check(DATA)}\n")
+                         f"0 60 0 0 0 0 00000000 0 0 0 0 {UNTOUCHED} 8 60 {check(DATA)}\n")
 
     def test_the_express_body_does_not_need_the_buffer(self):
         # Refused with 10, but the separate call gives the body all the same.
         self.assertEqual(answer(FRESH + "02 ED05 00" + mframe("55555555555555D5", DATA, fcs(DATA))),
-                         f"10 0 0 0 0 0 00000000 0 0 0 0 {check(memory(1517, 0))} 60 {check(DATA)}\n")
+                         f"10 0 0 0 0 0 00000000 0 0 0 0 {check(memory(1517, 0))} 8 60 {check(DATA)}\n")
 
     def test_a_frame_in_two_parts(self):
         later = bytes(range(70, 140))
@@ -52,8 +52,8 @@ class Answers(unittest.TestCase):
                        + mframe("5555555555552AE6", later, fcs(DATA + later))).splitlines()
         register = zlib.crc32(DATA) ^ 0xFFFFFFFF
         self.assertEqual(lines, [
-            f"2 60 1 3 0 60 {register:08x} 0 0 0 0 {check(memory(1518, 0xF8, DATA))} 0 00000000",
-            f"1 130 0 0 0 0 00000000 0 0 1 1 {check(memory(1518, 0xF8, DATA + later))} 0 00000000",
+            f"2 60 1 3 0 60 {register:08x} 0 0 0 0 {check(memory(1518, 0xF8, DATA))} 0 0 00000000",
+            f"1 130 0 0 0 0 00000000 0 0 1 1 {check(memory(1518, 0xF8, DATA + later))} 0 0 00000000",
         ])
 
     def test_record_and_memory_are_read_whole(self):
@@ -62,16 +62,16 @@ class Answers(unittest.TestCase):
         # zlib goes on from the complement of the register.
         check_octets = zlib.crc32(DATA, 0xFFFFFFFE).to_bytes(4, "little")
         line = answer(record + "02 0008 00" + mframe("5555555555559E4C", DATA, check_octets))
-        self.assertEqual(line, f"1 316 0 0 0 0 00000000 1 2 4 0 {check(memory(2048, 0, DATA, 256))} 0 00000000\n")
+        self.assertEqual(line, f"1 316 0 0 0 0 00000000 1 2 4 0 {check(memory(2048, 0, DATA, 256))} 0 0 00000000\n")
 
     def test_a_refusal_hands_the_record_back(self):
         record = "01 00 FF FE FFFFFFFFFFFFFFFF 89ABCDEF 05000000 06000000 07000000 08000000"
         self.assertEqual(answer(record + BUFFER + "03 0000"),
-                         f"11 0 0 255 254 18446744073709551615 efcdab89 5 6 7 8 {UNTOUCHED} 0 00000000\n")
+                         f"11 0 0 255 254 18446744073709551615 efcdab89 5 6 7 8 {UNTOUCHED} 0 0 00000000\n")
 
     def test_the_bits_of_an_unknown_delimiter(self):
         self.assertEqual(answer(FRESH + BUFFER + mframe("55555555555555AD", DATA, fcs(DATA))),
-                         f"15 4 0 0 0 0 00000000 0 1 0 0 {UNTOUCHED} 0 00000000\n")
+                         f"15 4 0 0 0 0 00000000 0 1 0 0 {UNTOUCHED} 0 0 00000000\n")
 
     def test_questions_that_break_the_layout(self):
         for broken in ("00", "04", "01 00", "03 0100", "02 0108 00", "03 0108" + "00" * 2049,
@@ -106,7 +106,7 @@ class Questions(unittest.TestCase):
         kept, completed = (line.split() for line in self.answers[-2:])
         self.assertEqual((kept[:2], completed[:2]), (["2", "64"], ["1", "124"]))
         expected = memory(1518, 77, witness.body_never_sent())
-        self.assertEqual(completed[-3:], [check(expected), "0", "00000000"])
+        self.assertEqual(completed[-4:], [check(expected), "0", "0", "00000000"])
 
     def test_sizes_stay_small(self):
         self.assertLess(sum(len(question) for question in self.questions), 700_000)

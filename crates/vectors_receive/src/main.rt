@@ -80,8 +80,16 @@ fn say_check(octets: &[u8]) {
     say::octets(crc::fcs(crc::over(crc::ALL_ONES, octets)));
 }
 
-// Of the express body nothing here can say where it begins: tests/c/compare.c compares that.
-fn say_body(body: &[u8]) {
+// Where the express body begins. Only the call for C tells that: a program cannot see where a slice lies.
+fn start_of_body(mframe: &[u8]) -> u32 {
+    let mut part = [0u32; 2];
+    seatport::seatport_express_body(mframe, &mut part);
+    part[0]
+}
+
+fn say_body(mframe: &[u8]) {
+    let body = receive::express_body(mframe);
+    say::number(start_of_body(mframe) as u64);
     say::number(body.len() as u64);
     say_check(body);
 }
@@ -96,7 +104,7 @@ fn receive_into(kept: Kept, mframe: &[u8], buffer: &mut [u8]) -> Kept {
     say_record(record);
     say_counters(counters);
     say_check(buffer);
-    say_body(receive::express_body(mframe));
+    say_body(mframe);
     Kept {
         record,
         buffer: kept.buffer,
