@@ -25,8 +25,8 @@ use Rattle.answers.specs.Answers.{says}
 use Rattle.answers.specs.Records.{inRange, counting, strayed}
 use Rattle.assembly.specs.Steps.{Step, told, delimiterError, unchanged, abandoned, expressOf, heardOf, startOf, endedOf, unexpected, totalOf, continuationOf, stepOf}
 use Rattle.receive.specs.Receive.{byHead, receivedOf, Answered}
-use Rattle.seatport.specs.Words.{word, isFlag, isCount}
-use Rattle.seatport.specs.Receiving.{receiverWords, receiverFits}
+use Rattle.words.specs.Words.{word, isFlag, isCount}
+use Rattle.receiver_words.specs.Receiver.{receiverWords, receiverFits}
 use Rattle.seatport.specs.Receiving as S
 use Rattle.rules.proofs.Tests.{both, chosen}
 
@@ -89,18 +89,6 @@ module _ (r : Record) (k : r .kept < 2 ^ 32) where
       chosen Fits (ltb room 1518) (unchanged (says 10 0) r) _ (unchanged-fits 10 0 (omega arith))
       (chosen Fits (not (inRange r)) (unchanged (says 11 0) r) (byHead (headOf m) m r) (unchanged-fits 11 0 (omega arith))
       (head-fits m (headOf m) (head-good m)))
-
--- what nine words that are a record's have
-pub record Counts (w : List ℕ) : Type 0 where
-  pub frame : word w 1 ≤ 255
-  pub fragment : word w 2 ≤ 255
-
-pub counts-known : (w : List ℕ) → receiverFits w ≡ true → Counts w
-unfolding receiverFits
-counts-known w e =
-    let a = both (isFlag w 0) _ e in
-    let b = both (isCount w 1) (isCount w 2) (a .1) in
-    record { frame = leb-true _ _ (b .0); fragment = leb-true _ _ (b .1) }
 
 -- the promise of receive, told in words
 pub received-words : {m : List ℕ} {r : Record} {b b′ receiver : List ℕ} {got : Received} {number detail : ℕ} → Answered m r b got b′

@@ -23,7 +23,7 @@ use Rattle.send.specs.Preemptable.{refusalOf, partNow, endOf, isDone, kindOf, c
 use Rattle.send.specs.declared.Record.{Record}
 use Rattle.send.proofs.Laws.{passed, cut-within}
 use Rattle.send.proofs.Whole.{check-length}
-use Rattle.seatport.specs.Sending.{Short}
+use Rattle.sender_words.specs.Sender.{Short}
 
 no-second : (a b : Bool) → (a || b) ≡ false → b ≡ false
 no-second true b e = absurd (false≢true (sym e))

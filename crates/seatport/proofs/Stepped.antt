@@ -8,19 +8,11 @@ use borrow.Author.Tests.{leb-true}
 use lib.Dec.{leb}
 use Rattle.verify.specs.Verify.{Told, said, told}
 use Rattle.verify.specs.declared.Stepped.{Stepped}
-use Rattle.seatport.specs.Words.{flag, word, isCount}
-use Rattle.seatport.specs.Verifying.{linkWords, linkFits, Taken}
+use Rattle.words.specs.Words.{flag, word, isCount}
+use Rattle.link_words.specs.Link.{linkWords, linkFits}
+use Rattle.seatport.specs.Verifying.{Taken}
 use Rattle.seatport.specs.Verifying as S
 use Rattle.rules.proofs.Tests.{both}
-
--- what four words that are a record's have
-pub counts-known : (w : List ℕ) (event : ℕ) → linkFits w event ≡ true → (word w 1 ≤ 255) × (word w 2 ≤ 255)
-unfolding linkFits
-counts-known w event e =
-    let a = both (leb (word w 0) 3) _ e in
-    let b = both (isCount w 1) _ (a .1) in
-    let c = both (isCount w 2) _ (b .1) in
-    (leb-true _ _ (b .0), leb-true _ _ (c .0))
 
 pub taken-words : {t : Told} (s : Stepped) {number ordered : ℕ} {link : List ℕ} → told s ≡ t
     → number ≡ said (s .answer) .number → ordered ≡ flag (said (s .answer) .ordered) → link ≡ linkWords (s .after) → Taken (S.told t) number ordered link

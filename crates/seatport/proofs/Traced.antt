@@ -9,7 +9,8 @@ use borrow.Author.Tests.{ltb-false}
 use lib.Dec.{eqb, ltb}
 use Rattle.trace.specs.Trace.{header, limit, kind, Said, found, ended, refused, said, lengthAt, kindAt, left, readAt}
 use Rattle.trace.specs.declared.Read.{Read}
-use Rattle.seatport.specs.Tracing.{numberOf, contentOf, Short, Traced}
+use Rattle.trace_words.specs.Content.{numberOf, contentOf, Short}
+use Rattle.seatport.specs.Tracing.{Traced}
 
 pub read-short : (s : List ℕ) → Short (readAt s 0)
 unfolding readAt

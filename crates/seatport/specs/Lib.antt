@@ -2,4 +2,3 @@ pub mod Receiving
 pub mod Sending
 pub mod Tracing
 pub mod Verifying
-pub mod Words

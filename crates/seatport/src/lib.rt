@@ -4,7 +4,6 @@ mod receiving;
 mod sending;
 mod tracing;
 mod verifying;
-mod words;
 
 pub use receiving::seatport_express_body;
 pub use receiving::seatport_receive;

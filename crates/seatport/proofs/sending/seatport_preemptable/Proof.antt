@@ -1,7 +1,8 @@
 -- `seatport::sending::seatport_preemptable` meets its contract.
 -- Assumes nothing.
 use mathlib.Core.Path.{refl, sym, subst, _∙_}
-use Rattle.seatport.specs.Sending.{Short, sendingOf}
+use Rattle.sender_words.specs.Sender.{Short}
+use Rattle.seatport.specs.Sending.{sendingOf}
 use Rattle.rules.proofs.Tests.{tests}
 use Rattle.seatport.proofs.Sent.{sent-words}
 use Rattle.seatport.proofs.Short.{Fits, sent-short, after-short}

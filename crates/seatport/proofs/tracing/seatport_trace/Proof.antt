@@ -3,7 +3,7 @@
 use mathlib.Core.Path.{sym, ap, subst, _∙_}
 use Rattle.trace.specs.Trace.{readAt}
 use Rattle.trace.specs.declared.Cursor.{Cursor}
-use Rattle.seatport.specs.Tracing.{Short}
+use Rattle.trace_words.specs.Content.{Short}
 use Rattle.seatport.proofs.Traced.{read-short, traced-words}
 use borrow.Author.Needs.{needs}
 use Rattle.seatport.proofs.tracing.seatport_trace.Statement.{statement}

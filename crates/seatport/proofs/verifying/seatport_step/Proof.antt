@@ -2,7 +2,8 @@
 -- Assumes nothing.
 use mathlib.Core.Path.{refl, sym, _∙_}
 use Rattle.seatport.specs.Verifying.{verifyingOf}
-use Rattle.seatport.proofs.Stepped.{counts-known, taken-words}
+use Rattle.link_words.proofs.Laws.{counts-known}
+use Rattle.seatport.proofs.Stepped.{taken-words}
 use borrow.Author.Needs.{needs}
 use Rattle.seatport.proofs.verifying.seatport_step.Statement.{statement}
 use Rattle.seatport.proofs.verifying.seatport_step.Tie as tie

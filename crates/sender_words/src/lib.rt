@@ -1,0 +1,96 @@
+// The sending record and what a sending call answers, as words of 32 bits.
+use codes::FragmentCount;
+use codes::FrameCount;
+use cut::Ask;
+use mframe::Answer;
+use send::Record;
+ghost use mathlib.Core.Path.{_≡_};
+ghost use mathlib.Core.Bool.{true};
+ghost use Prim.Native.Nat.{_<_, _^_};
+ghost use Rattle.mframe.specs.Sending.{said};
+ghost use Rattle.sender_words.specs.Sender.{numberOf, writtenOf, Short, senderWords, senderFits, senderOf, askOf};
+
+// Stands for no ask.
+const NO_ASK: usize = 0xFFFF_FFFF_FFFF_FFFF;
+
+// The number that is returned.
+pub fn number_of(answer: Answer) -> u32
+    ensures { λ r. ⌜ r ≡ numberOf (said answer) ⌝ }
+{
+    match answer {
+        Answer::Wrote { length: _, done: _ } => 0,
+        Answer::Refused(why) => why.number(),
+    }
+}
+
+// The two words of what was written.
+pub fn written_of(answer: Answer) -> [u32; 2]
+    requires { ⌜ Short (said answer) ⌝ }
+    ensures { λ r. ⌜ r ≡ writtenOf (said answer) ⌝ }
+{
+    match answer {
+        Answer::Wrote { length, done } => [length as u32, words::flag(done)],
+        Answer::Refused(_) => [0, 0],
+    }
+}
+
+// Whether seven words are a sending record's.
+pub fn sender_fits(words: [u32; 7]) -> bool
+    ensures { λ r. ⌜ r ≡ senderFits words ⌝ }
+{
+    if 1 < words[0] {
+        return false;
+    }
+    if 1 < words[1] {
+        return false;
+    }
+    if 255 < words[2] {
+        return false;
+    }
+    if 255 < words[3] {
+        return false;
+    }
+    words[6] <= 255
+}
+
+// The record that they then are.
+pub fn sender_of(words: [u32; 7]) -> Record
+    requires { ⌜ senderFits words ≡ true ⌝ }
+    ensures { λ r. ⌜ (r ≡ senderOf words) × ((r .length < 2 ^ 32) × (r .sent < 2 ^ 32)) ⌝ }
+{
+    Record {
+        active: words[0] == 1,
+        hold: words[1] == 1,
+        extra: words[2] as u8,
+        next: FrameCount(words[3] as u8),
+        length: words::wide(words[4]),
+        sent: words::wide(words[5]),
+        fragment: FragmentCount(words[6] as u8),
+    }
+}
+
+pub fn sender_words(record: Record) -> [u32; 7]
+    requires { ⌜ («record» .length < 2 ^ 32) × («record» .sent < 2 ^ 32) ⌝ }
+    ensures { λ r. ⌜ r ≡ senderWords «record» ⌝ }
+{
+    let next = record.next;
+    let fragment = record.fragment;
+    [
+        words::flag(record.active),
+        words::flag(record.hold),
+        record.extra as u32,
+        next.0 as u32,
+        record.length as u32,
+        record.sent as u32,
+        fragment.0 as u32,
+    ]
+}
+
+pub fn ask_of(ask: usize) -> Ask
+    ensures { λ r. ⌜ r ≡ askOf ask ⌝ }
+{
+    if ask == NO_ASK {
+        return Ask::None;
+    }
+    Ask::At(ask)
+}
