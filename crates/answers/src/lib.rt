@@ -2,9 +2,9 @@
 // answers with what the paper says for each.
 use codes::FragmentCount;
 use codes::FrameCount;
+use heads::Fault;
 use mframe::BODY_LEAST;
 use mframe::BODY_MOST;
-use mframe::Fault;
 ghost use mathlib.Core.Path.{_≡_};
 ghost use Rattle.answers.specs.Answers.{refusalNumber, refusalDetail, dropNumber, said};
 ghost use Rattle.answers.specs.Records.{erred, strayed, joined, completed, shut, fresh, inRange};

@@ -13,7 +13,7 @@ use Rattle.crc.specs.Crc.{allOnes}
 use Rattle.crc.specs.Judge.{endingOf}
 use Rattle.crc.specs.declared.Ending.{Ending}
 use Rattle.crc.specs.declared.Ending.the-variants.{Done, More, Damaged}
-use Rattle.mframe.specs.Head.{Reading, known, refused, headOf}
+use Rattle.heads.specs.Head.{Reading, known, refused, headOf}
 use Rattle.mframe.specs.declared.Kind.{Kind}
 use Rattle.mframe.specs.declared.Kind.the-variants as K
 use Rattle.answers.specs.declared.Counters.{Counters}
@@ -22,7 +22,7 @@ use Rattle.answers.specs.Answers.{Said, says}
 use Rattle.answers.specs.Records.{erred, strayed, joined, completed, opened, inRange}
 use Rattle.assembly.specs.Steps.{Step, one, unchanged, abandoned, expressOf, heardOf, startOf, endedOf, unexpected, totalOf, continuationOf, stepOf}
 use Rattle.receive.specs.Receive.{byHead, receivedOf}
-use Rattle.mframe.proofs.Heads.{Refusal, n12, n13, n14, n15, n16, n17, Good, head-good}
+use Rattle.heads.proofs.Heads.{Refusal, n12, n13, n14, n15, n16, n17, Good, head-good}
 use Rattle.histories.specs.History.{Call, callOf, started, delivered, abandoning, damagedStart, misdelimited, completing, continuing}
 use Rattle.histories.proofs.Right.{Right, idle, going, right-ranges}
 

@@ -9,7 +9,7 @@ use lib.Dec.{eqb, ltb}
 use lib.ListN.{length, take, drop, length-drop}
 use Rattle.crc.specs.Crc.{allOnes}
 use Rattle.crc.specs.Judge.{endingOf}
-use Rattle.mframe.specs.Head.{Reading, known, refused, headOf}
+use Rattle.heads.specs.Head.{Reading, known, refused, headOf}
 use Rattle.mframe.specs.declared.Kind.the-variants as K
 use Rattle.answers.specs.declared.Counters.{Counters}
 use Rattle.answers.specs.declared.Record.{Record}
@@ -17,7 +17,7 @@ use Rattle.answers.specs.Answers.{Said, says}
 use Rattle.answers.specs.Records.{fresh, counting, inRange}
 use Rattle.assembly.specs.Steps.{Step, unchanged}
 use Rattle.receive.specs.Receive.{byHead, receivedOf, dataIn, bufferOf, bodyOf}
-use Rattle.mframe.proofs.Heads.{Refusal, n12, n13, n14, n15, n16, n17, Good, head-good}
+use Rattle.heads.proofs.Heads.{Refusal, n12, n13, n14, n15, n16, n17, Good, head-good}
 use Rattle.crc.proofs.Endings.{ends}
 use Rattle.histories.specs.History.{isStart, refusal}
 use Rattle.link.specs.Frames.{ifSo}

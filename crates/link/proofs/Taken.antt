@@ -10,9 +10,10 @@ use lib.ListN.{length, drop, length-append}
 use lib.Seq.{drop-at}
 use Rattle.crc.proofs.Endings.{data-of}
 use Rattle.mframe.specs.Octets.{headerOf, mFrameOf}
-use Rattle.mframe.specs.Head.{known, headOf}
+use Rattle.heads.specs.Head.{known, headOf}
 use Rattle.mframe.specs.declared.Kind.{Kind}
-use Rattle.mframe.proofs.Laws.{Counted, header-length, head-read}
+use Rattle.mframe.proofs.Laws.{Counted, header-length}
+use Rattle.heads.proofs.Laws.{head-read}
 use Rattle.answers.specs.declared.Record.{Record}
 use Rattle.answers.specs.Records.{fresh, inRange}
 use Rattle.assembly.specs.Steps.{stepOf}

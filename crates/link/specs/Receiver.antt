@@ -4,7 +4,7 @@ use mathlib.Core.List.{List, [], _∷_, _++_}
 use Prim.Native.Nat.{ℕ}
 use lib.Dec.{eqb}
 use lib.ListN.{length, take}
-use Rattle.mframe.specs.Head.{headOf}
+use Rattle.heads.specs.Head.{headOf}
 use Rattle.answers.specs.Answers.{Said}
 use Rattle.answers.specs.declared.Record.{Record}
 use Rattle.receive.specs.Receive.{receivedOf, bufferOf, bodyOf}

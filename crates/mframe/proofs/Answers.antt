@@ -8,16 +8,10 @@ use lib.Dec.{eqb}
 use lib.ListN.{length}
 use Rattle.octets.specs.Laid.{over}
 use Rattle.mframe.specs.Sending.{Said, wrote, refused, number, said, Outcome, write, Answered, Laid}
-use Rattle.mframe.specs.Head.{Reading, faultNumber, faultDetail, reading, headOf}
-use Rattle.mframe.specs.Head as H
 use Rattle.mframe.specs.declared.Answer.{Answer}
 use Rattle.mframe.specs.declared.Answer.the-variants.{Wrote, Refused}
 use Rattle.mframe.specs.declared.Refusal.{Refusal}
 use Rattle.mframe.specs.declared.Refusal.the-variants.{Output, Record, Body, Length, Hold}
-use Rattle.mframe.specs.declared.Head.{Head}
-use Rattle.mframe.specs.declared.Head.the-variants as Heads
-use Rattle.mframe.specs.declared.Fault.{Fault}
-use Rattle.mframe.specs.declared.Fault.the-variants.{Short, Long, Preamble, Delimiter, Place, Fragment}
 
 -- an mFrame laid, which is the one asked for, is an answer with its octets
 pub written : {f g out out′ : List ℕ} {n : ℕ} {done : Bool} → Laid f out n out′ → f ≡ g → Answered (write g done) out (Wrote n done) out′
@@ -50,37 +44,6 @@ answered-once o out p q = (said-one (p .answer ∙ sym (q .answer)), p .octets �
 pub lay-once : (mFrame out : List ℕ) {m n : ℕ} {x y : List ℕ} → Laid mFrame out m x → Laid mFrame out n y → (m ≡ n) × (x ≡ y)
 lay-once mFrame out p q = (p .count ∙ sym (q .count), p .octets ∙ sym (q .octets))
 
--- why a head is refused, from the number and the detail
-unfoldable pub faultOf : ℕ → ℕ → Fault
-faultOf k bits =
-    cond (eqb k 12) Short (cond (eqb k 13) Long (cond (eqb k 14) Preamble (cond (eqb k 15) (Delimiter bits) (cond (eqb k 16) Place Fragment))))
-
-fault-back : (f : Fault) → faultOf (faultNumber f) (faultDetail f) ≡ f
-unfolding faultOf
-fault-back Short = refl
-fault-back Long = refl
-fault-back Preamble = refl
-fault-back (Delimiter bits) = refl
-fault-back Place = refl
-fault-back Fragment = refl
-
--- a head, from what it is told as
-unread : Reading → Head
-unread (H.known kind place) = Heads.Known kind place
-unread (H.refused k bits) = Heads.Refused (faultOf k bits)
-
-again : (h : Head) → unread (reading h) ≡ h
-unfolding unread
-again (Heads.Known kind place) = refl
-again (Heads.Refused fault) = ap Heads.Refused (fault-back fault)
-
 -- the numbers of the refusals
 pub number-once : (q : Refusal) {x y : ℕ} → x ≡ number q → y ≡ number q → x ≡ y
 number-once q p s = p ∙ sym s
-
-pub fault-once : (f : Fault) {x y m n : ℕ} → x ≡ faultNumber f → y ≡ faultNumber f → m ≡ faultDetail f → n ≡ faultDetail f → (x ≡ y) × (m ≡ n)
-fault-once f p q s t = (p ∙ sym q, s ∙ sym t)
-
--- head_of: no second head
-pub head-of-once : (m : List ℕ) {x y : Head} → reading x ≡ headOf m → reading y ≡ headOf m → x ≡ y
-head-of-once m {x} {y} p q = sym (again x) ∙ ap unread (p ∙ sym q) ∙ again y

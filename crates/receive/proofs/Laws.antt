@@ -15,11 +15,11 @@ use Rattle.crc.specs.Judge.{endingOf}
 use Rattle.crc.specs.declared.Ending.{Ending}
 use Rattle.crc.proofs.Endings.{Ends, ends}
 use Rattle.crc.specs.declared.Ending.the-variants.{Done, More, Damaged}
-use Rattle.mframe.specs.Head.{faultNumber}
+use Rattle.heads.specs.Head.{faultNumber}
 use Rattle.mframe.specs.declared.Kind.{Kind}
 use Rattle.mframe.specs.declared.Kind.the-variants as K
-use Rattle.mframe.specs.declared.Fault.{Fault}
-use Rattle.mframe.specs.declared.Fault.the-variants.{Short, Long, Preamble, Delimiter, Place, Fragment}
+use Rattle.heads.specs.declared.Fault.{Fault}
+use Rattle.heads.specs.declared.Fault.the-variants.{Short, Long, Preamble, Delimiter, Place, Fragment}
 use Rattle.answers.specs.declared.Record.{Record}
 use Rattle.answers.specs.Answers.{Said, says}
 use Rattle.answers.specs.Records.{fresh}

@@ -12,18 +12,18 @@ use lib.ListN.{length, take, drop, length-drop}
 use lib.Seq.{length-take-le, take-all}
 use Rattle.octets.specs.Laid.{laid}
 use Rattle.crc.specs.Judge.{dataOf}
-use Rattle.mframe.specs.Head.{Reading, known, faultNumber, faultDetail, reading, headOf}
+use Rattle.heads.specs.Head.{Reading, known, faultNumber, faultDetail, reading, headOf}
 use Rattle.mframe.specs.declared.Kind.{Kind}
-use Rattle.mframe.specs.declared.Fault.{Fault}
-use Rattle.mframe.specs.declared.Head.{Head}
-use Rattle.mframe.specs.declared.Head.the-variants.{Known, Refused}
+use Rattle.heads.specs.declared.Fault.{Fault}
+use Rattle.heads.specs.declared.Head.{Head}
+use Rattle.heads.specs.declared.Head.the-variants.{Known, Refused}
 use Rattle.answers.specs.declared.Record.{Record}
 use Rattle.answers.specs.declared.Received.{Received}
 use Rattle.answers.specs.Answers.{Said, says, said}
 use Rattle.answers.specs.Records.{fresh, inRange}
 use Rattle.assembly.specs.Steps.{Step, told, unchanged, stepOf}
 use Rattle.receive.specs.Receive.{byHead, receivedOf, upTo, writes, leftOf, dataIn, bufferOf, Answered, Taken, expressDelivered, bodyOf}
-use Rattle.mframe.proofs.Heads.{Good, head-good}
+use Rattle.heads.proofs.Heads.{Good, head-good}
 use Rattle.receive.proofs.Laws.{refused-writes, zero-delivers, step-within}
 
 -- keep

@@ -11,7 +11,7 @@ use Rattle.crc.specs.Crc.{allOnes}
 use Rattle.crc.specs.Judge.{dataOf, endingOf}
 use Rattle.crc.specs.declared.Ending.{Ending}
 use Rattle.crc.specs.declared.Ending.the-variants.{Done, More, Damaged}
-use Rattle.mframe.specs.Head.{Reading, known, refused, headOf}
+use Rattle.heads.specs.Head.{Reading, known, refused, headOf}
 use Rattle.mframe.specs.declared.Kind.{Kind}
 use Rattle.mframe.specs.declared.Kind.the-variants as K
 use Rattle.answers.specs.declared.Record.{Record}

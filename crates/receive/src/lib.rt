@@ -3,9 +3,9 @@ use answers::Received;
 use answers::Record;
 use answers::Refusal;
 use crc::Ending;
+use heads::Head;
 use mframe::BODY_MOST;
 use mframe::CHECK;
-use mframe::Head;
 use mframe::Kind;
 ghost use mathlib.Core.Path.{_≡_};
 ghost use Prim.Native.Nat.{_+_, _≤_};
@@ -56,7 +56,7 @@ pub fn receive(mframe: &[u8], record: Record, buffer: &mut [u8]) -> Received
     if !record.in_range() {
         return assembly::refuse(Refusal::Record, record);
     }
-    match mframe::head_of(mframe) {
+    match heads::head_of(mframe) {
         Head::Known(kind, place) => take(kind, &mframe[place..], record, buffer),
         Head::Refused(fault) => assembly::refuse(Refusal::Head(fault), record),
     }
@@ -89,7 +89,7 @@ fn delivers_express(kind: Kind, octets: &[u8]) -> bool
 pub fn express_body(mframe: &[u8]) -> &[u8]
     ensures { λ r. ⌜ now r ≡ bodyOf (now (mframe .entry)) ⌝ }
 {
-    let Head::Known(kind, place) = mframe::head_of(mframe) else {
+    let Head::Known(kind, place) = heads::head_of(mframe) else {
         return &mframe[0..0];
     };
     if delivers_express(kind, &mframe[place..]) {

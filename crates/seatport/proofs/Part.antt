@@ -9,8 +9,8 @@ use lib.Dec.{eqb}
 use lib.ListN.{length, drop, length-drop}
 use lib.Seq.{length-take-le}
 use Rattle.crc.specs.Judge.{dataOf}
-use Rattle.mframe.specs.Head.{Reading, known, refused, headOf}
-use Rattle.mframe.proofs.Heads.{Good, head-good, no-delivery}
+use Rattle.heads.specs.Head.{Reading, known, refused, headOf}
+use Rattle.heads.proofs.Heads.{Good, head-good, no-delivery}
 use Rattle.answers.specs.Records.{fresh, inRange}
 use Rattle.receive.specs.Receive.{byHead, receivedOf, dataIn, bodyOf}
 use Rattle.seatport.specs.Receiving.{startOf, partOf}

@@ -15,10 +15,10 @@ use Rattle.crc.specs.Judge.{endingOf}
 use Rattle.crc.specs.declared.Ending.{Ending}
 use Rattle.crc.specs.declared.Ending.the-variants.{Done, More, Damaged}
 use Rattle.crc.proofs.Endings.{Ends, ends}
-use Rattle.mframe.specs.Head.{Reading, known, refused, headOf}
+use Rattle.heads.specs.Head.{Reading, known, refused, headOf}
 use Rattle.mframe.specs.declared.Kind.{Kind}
 use Rattle.mframe.specs.declared.Kind.the-variants as K
-use Rattle.mframe.proofs.Heads.{Good, head-good, detail-small}
+use Rattle.heads.proofs.Heads.{Good, head-good, detail-small}
 use Rattle.answers.specs.declared.Record.{Record}
 use Rattle.answers.specs.declared.Received.{Received}
 use Rattle.answers.specs.Answers.{says}

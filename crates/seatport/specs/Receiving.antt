@@ -6,7 +6,7 @@ use mathlib.Core.List.{List, [], _∷_}
 use Prim.Native.Nat.{ℕ}
 use lib.Dec.{eqb, ltb}
 use lib.ListN.{length}
-use Rattle.mframe.specs.Head.{Reading, known, refused, headOf}
+use Rattle.heads.specs.Head.{Reading, known, refused, headOf}
 use Rattle.answers.specs.Records.{fresh}
 use Rattle.assembly.specs.Steps.{Step}
 use Rattle.receive.specs.Receive.{receivedOf, bufferOf, bodyOf}

@@ -18,10 +18,11 @@ use Rattle.codes.specs.declared.FragmentCount.{FragmentCount}
 use Rattle.cut.specs.declared.Part.{Part}
 use Rattle.cut.specs.declared.Part.the-variants.{Whole, Cut}
 use Rattle.mframe.specs.Octets.{headerOf}
-use Rattle.mframe.specs.Head.{Reading, known, headOf}
+use Rattle.heads.specs.Head.{Reading, known, headOf}
 use Rattle.mframe.specs.declared.Kind.{Kind}
 use Rattle.mframe.specs.declared.Kind.the-variants.{Express, Start, Continuation}
-use Rattle.mframe.proofs.Laws.{Counted, head-read}
+use Rattle.mframe.proofs.Laws.{Counted}
+use Rattle.heads.proofs.Laws.{head-read}
 use Rattle.send.specs.Preemptable.{refusalOf, partNow, endOf, isDone, kindOf, checkOf, frameAfter, fragmentAfter, recordAfter, mFrame, go, sentOf, unless}
 use Rattle.send.specs.Whole.{Call, setting, AllActive, Written, written, continuations, frameKinds}
 use Rattle.send.specs.declared.Record.{Record}

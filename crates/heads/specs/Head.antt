@@ -10,12 +10,12 @@ use Rattle.codes.specs.declared.Delimiter.{Delimiter}
 use Rattle.codes.specs.declared.Delimiter.the-variants as D
 use Rattle.codes.specs.declared.Fragment.{Fragment}
 use Rattle.codes.specs.declared.Fragment.the-variants as F
 use Rattle.mframe.specs.declared.Kind.{Kind}
 use Rattle.mframe.specs.declared.Kind.the-variants as K
-use Rattle.mframe.specs.declared.Head.{Head}
-use Rattle.mframe.specs.declared.Head.the-variants.{Known, Refused}
-use Rattle.mframe.specs.declared.Fault.{Fault}
-use Rattle.mframe.specs.declared.Fault.the-variants.{Short, Long, Preamble, Delimiter as Unknown, Place, Fragment as Code}
+use Rattle.heads.specs.declared.Head.{Head}
+use Rattle.heads.specs.declared.Head.the-variants.{Known, Refused}
+use Rattle.heads.specs.declared.Fault.{Fault}
+use Rattle.heads.specs.declared.Fault.the-variants.{Short, Long, Preamble, Delimiter as Unknown, Place, Fragment as Code}
 
 -- a head as the paper gives it: the kind and the place where the data begin, or a refusal's number and its value
 pub data Reading : Type 0 where

@@ -1,4 +1,4 @@
--- `mframe::read::preambled` meets its contract. The invariant: whether all six are 55 is whether those left are.
+-- `heads::read::preambled` meets its contract. The invariant: whether all six are 55 is whether those left are.
 -- Assumes nothing.
 use mathlib.Core.Path.{_≡_, refl, sym, ap, _∙_}
 use mathlib.Core.Bool.{Bool, _&&_}
@@ -6,10 +6,10 @@ use Prim.Native.Nat.{_≤_, _-_, _+_}
 use native.Mathlib.Omega.{arith}
 use borrow.Author.Tests.{eq-eqb, ne-eqb}
 use lib.ListN.{take, drop}
-use Rattle.mframe.specs.Head.{all55}
-use Rattle.mframe.proofs.Laws.{preamble-turn, preamble-end}
-use Rattle.mframe.proofs.read.preambled.Statement.{statement}
-use Rattle.mframe.proofs.read.preambled.Tie as tie
+use Rattle.heads.specs.Head.{all55}
+use Rattle.heads.proofs.Laws.{preamble-turn, preamble-end}
+use Rattle.heads.proofs.read.preambled.Statement.{statement}
+use Rattle.heads.proofs.read.preambled.Tie as tie
 
 abbrev Inv-loop : tie.InvT-loop
 Inv-loop mframe i₀ i = (i ≤ 6) × (all55 (drop i (take 6 mframe)) ≡ all55 (take 6 mframe))

@@ -1,9 +1,9 @@
--- `mframe::read::coded` meets its contract.
+-- `heads::read::coded` meets its contract.
 -- Assumes nothing.
 use mathlib.Core.Path.{sym, _∙_}
 use borrow.Author.Needs.{needs}
-use Rattle.mframe.proofs.read.coded.Statement.{statement}
-use Rattle.mframe.proofs.read.coded.Tie as tie
+use Rattle.heads.proofs.read.coded.Statement.{statement}
+use Rattle.heads.proofs.read.coded.Tie as tie
 
 fragment-of-requires : tie.Need-fragment-of-requires
 fragment-of-requires c κs = search needs

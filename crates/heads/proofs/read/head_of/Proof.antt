@@ -1,11 +1,11 @@
--- `mframe::read::head_of` meets its contract.
+-- `heads::read::head_of` meets its contract.
 -- Assumes nothing.
-use Rattle.mframe.specs.Head.{headOf}
+use Rattle.heads.specs.Head.{headOf}
 use mathlib.Core.Path.{sym, _∙_}
 use Rattle.rules.proofs.Tests.{tests}
 use borrow.Author.Needs.{needs}
-use Rattle.mframe.proofs.read.head_of.Statement.{statement}
-use Rattle.mframe.proofs.read.head_of.Tie as tie
+use Rattle.heads.proofs.read.head_of.Statement.{statement}
+use Rattle.heads.proofs.read.head_of.Tie as tie
 
 returns : tie.Need-returns
 unfolding headOf

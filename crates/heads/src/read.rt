@@ -1,16 +1,16 @@
 // The head of any octets: the kind with its counts and where the data begin, or the refusal.
 use crate::Fault;
-use crate::HEADER;
 use crate::Head;
-use crate::Kind;
 use codes::Delimiter;
 use codes::Fragment;
 use codes::FrameCount;
+use mframe::HEADER;
+use mframe::Kind;
 ghost use mathlib.Core.Path.{_≡_};
 ghost use Prim.Native.Nat.{_≤_};
 ghost use lib.ListN.{length, take};
 ghost use Rattle.codes.specs.Codes.{delimiterOf, fragmentOf};
-ghost use Rattle.mframe.specs.Head.{all55, reading, sevenOf, sixOf, codedOf, headOf};
+ghost use Rattle.heads.specs.Head.{all55, reading, sevenOf, sixOf, codedOf, headOf};
 
 // The least and the greatest mFrame.
 const LEAST: usize = 72;

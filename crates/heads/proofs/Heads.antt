@@ -15,10 +15,10 @@ use Rattle.codes.specs.declared.Delimiter.{Delimiter}
 use Rattle.codes.specs.declared.Delimiter.the-variants as D
 use Rattle.codes.specs.declared.Fragment.{Fragment}
 use Rattle.codes.specs.declared.Fragment.the-variants as F
-use Rattle.mframe.specs.Head.{Reading, known, refused, all55, sevenOf, sixOf, placedOf, headOf}
+use Rattle.heads.specs.Head.{Reading, known, refused, all55, sevenOf, sixOf, placedOf, headOf}
 use Rattle.mframe.specs.declared.Kind.{Kind}
 use Rattle.mframe.specs.declared.Kind.the-variants as K
 use Rattle.mframe.proofs.Laws.{Counted}
 
 -- the numbers of a head's refusal, with their details
 pub data Refusal : (number detail : ℕ) → Type 0 where
