@@ -1,7 +1,7 @@
 -- Answers told in the paper's numbers: what is told gives the answer back, so no second answer meets a promise of this crate.
 -- Assumes nothing.
 use mathlib.Core.Path.{_≡_, refl, sym, ap, _∙_}
-use mathlib.Core.Bool.{Bool, cond}
+use mathlib.Core.Bool.{cond}
 use Prim.Native.Nat.{ℕ}
 use lib.Dec.{eqb, ltb}
 use Rattle.heads.specs.declared.Fault.the-variants.{Short, Long, Preamble, Delimiter, Place, Fragment}
@@ -12,10 +12,7 @@ use Rattle.answers.specs.declared.Drop.{Drop}
 use Rattle.answers.specs.declared.Drop.the-variants as D
 use Rattle.answers.specs.declared.Answer.{Answer}
 use Rattle.answers.specs.declared.Answer.the-variants as A
-use Rattle.answers.specs.declared.Counters.{Counters}
-use Rattle.answers.specs.declared.Record.{Record}
 use Rattle.answers.specs.Answers.{Said, said}
-use Rattle.answers.specs.Records.{erred, strayed, joined, completed, shut, fresh, inRange}
 
 -- the answer, from what it is told as
 refusal : ℕ → ℕ → Refusal
@@ -66,28 +63,3 @@ number-once a p q = p ∙ sym q
 
 pub detail-once : (a : Answer) {x y : ℕ} → x ≡ said a .detail → y ≡ said a .detail → x ≡ y
 detail-once a p q = p ∙ sym q
-
--- shut and fresh
-pub shut-once : (c : Counters) {x y : Record} → x ≡ shut c → y ≡ shut c → x ≡ y
-shut-once c p q = p ∙ sym q
-
-pub fresh-once : {x y : Record} → x ≡ fresh → y ≡ fresh → x ≡ y
-fresh-once p q = p ∙ sym q
-
--- in_range
-pub in-range-once : (r : Record) {x y : Bool} → x ≡ inRange r → y ≡ inRange r → x ≡ y
-in-range-once r p q = p ∙ sym q
-
--- the steps of the counters
-module _ (c : Counters) where
-  pub erred-once : (n : ℕ) {x y : Counters} → x ≡ erred n c → y ≡ erred n c → x ≡ y
-  erred-once n p q = p ∙ sym q
-
-  pub strayed-once : {x y : Counters} → x ≡ strayed c → y ≡ strayed c → x ≡ y
-  strayed-once p q = p ∙ sym q
-
-  pub joined-once : {x y : Counters} → x ≡ joined c → y ≡ joined c → x ≡ y
-  joined-once p q = p ∙ sym q
-
-  pub completed-once : {x y : Counters} → x ≡ completed c → y ≡ completed c → x ≡ y
-  completed-once p q = p ∙ sym q

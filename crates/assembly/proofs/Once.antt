@@ -6,7 +6,7 @@ use Prim.Native.Nat.{ℕ}
 use Rattle.mframe.specs.declared.Kind.{Kind}
 use Rattle.answers.specs.declared.Answer.{Answer}
 use Rattle.answers.specs.declared.Refusal.{Refusal}
-use Rattle.answers.specs.declared.Record.{Record}
+use Rattle.records.specs.declared.Record.{Record}
 use Rattle.answers.specs.declared.Received.{Received}
 use Rattle.answers.specs.Answers.{refused}
 use Rattle.answers.proofs.Answers.{said-one}

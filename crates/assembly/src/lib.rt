@@ -3,7 +3,6 @@
 use answers::Answer;
 use answers::Drop;
 use answers::Received;
-use answers::Record;
 use answers::Refusal;
 use codes::FragmentCount;
 use codes::FrameCount;
@@ -11,6 +10,7 @@ use crc::Ending;
 use mframe::BODY_MOST;
 use mframe::CHECK;
 use mframe::Kind;
+use records::Record;
 ghost use mathlib.Core.Path.{_≡_};
 ghost use mathlib.Core.Bool.{not, _&&_};
 ghost use Prim.Native.Nat.{_+_, _-_};

@@ -7,9 +7,9 @@ use Prim.Native.Nat.{ℕ, _+_, _≤_}
 use native.Mathlib.Omega.{arith}
 use lib.ListN.{length, take}
 use Rattle.crc.specs.Crc.{allOnes, registerOver}
-use Rattle.answers.specs.declared.Counters.{Counters}
-use Rattle.answers.specs.declared.Record.{Record}
-use Rattle.answers.specs.Records.{fresh}
+use Rattle.records.specs.declared.Counters.{Counters}
+use Rattle.records.specs.declared.Record.{Record}
+use Rattle.records.specs.Records.{fresh}
 use Rattle.assembly.specs.Steps.{one}
 use Rattle.histories.specs.History.{recordAfter, bufferAfter, Call, calls, count, started, delivered, abandoning, damagedStart, misdelimited, completing, continuing, Holds}
 use Rattle.histories.proofs.Right.{Right, idle, going, right-ranges, right-after}

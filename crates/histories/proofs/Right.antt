@@ -23,10 +23,10 @@ use Rattle.heads.specs.Head.{Reading, known, refused, headOf}
 use Rattle.mframe.specs.declared.Kind.{Kind}
 use Rattle.mframe.specs.declared.Kind.the-variants as K
 use Rattle.mframe.proofs.Laws.{Counted}
-use Rattle.answers.specs.declared.Counters.{Counters}
-use Rattle.answers.specs.declared.Record.{Record}
+use Rattle.records.specs.declared.Counters.{Counters}
+use Rattle.records.specs.declared.Record.{Record}
 use Rattle.answers.specs.Answers.{Said, says}
-use Rattle.answers.specs.Records.{strayed, shut, opened, counting, inRange}
+use Rattle.records.specs.Records.{strayed, shut, opened, counting, inRange}
 use Rattle.assembly.specs.Steps.{Step, unchanged, abandoned, expressOf, heardOf, startOf, endedOf, unexpected, totalOf, continuationOf, stepOf}
 use Rattle.receive.specs.Receive.{byHead, receivedOf, upTo, leftOf, dataIn, bufferOf}
 use Rattle.heads.proofs.Heads.{Refusal, n12, n13, n14, n15, n16, n17, Good, head-good}

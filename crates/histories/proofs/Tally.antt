@@ -16,10 +16,10 @@ use Rattle.crc.specs.declared.Ending.the-variants.{Done, More, Damaged}
 use Rattle.heads.specs.Head.{Reading, known, refused, headOf}
 use Rattle.mframe.specs.declared.Kind.{Kind}
 use Rattle.mframe.specs.declared.Kind.the-variants as K
-use Rattle.answers.specs.declared.Counters.{Counters}
-use Rattle.answers.specs.declared.Record.{Record}
+use Rattle.records.specs.declared.Counters.{Counters}
+use Rattle.records.specs.declared.Record.{Record}
 use Rattle.answers.specs.Answers.{Said, says}
-use Rattle.answers.specs.Records.{erred, strayed, joined, completed, opened, inRange}
+use Rattle.records.specs.Records.{erred, strayed, joined, completed, opened, inRange}
 use Rattle.assembly.specs.Steps.{Step, one, unchanged, abandoned, expressOf, heardOf, startOf, endedOf, unexpected, totalOf, continuationOf, stepOf}
 use Rattle.receive.specs.Receive.{byHead, receivedOf}
 use Rattle.heads.proofs.Heads.{Refusal, n12, n13, n14, n15, n16, n17, Good, head-good}

@@ -9,8 +9,8 @@ use lib.ListN.{length, take}
 use Rattle.crc.specs.Crc.{allOnes, registerOver}
 use Rattle.heads.specs.Head.{Reading, known, refused, headOf}
 use Rattle.mframe.specs.declared.Kind.the-variants.{Express, Start, Continuation, Verify, Respond}
-use Rattle.answers.specs.declared.Record.{Record}
-use Rattle.answers.specs.Records.{inRange}
+use Rattle.records.specs.declared.Record.{Record}
+use Rattle.records.specs.Records.{inRange}
 use Rattle.assembly.specs.Steps.{Step, delimiterError, one}
 use Rattle.receive.specs.Receive.{receivedOf, bufferOf}
 

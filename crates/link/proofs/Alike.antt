@@ -18,10 +18,10 @@ use Rattle.crc.specs.declared.Ending.{Ending}
 use Rattle.crc.specs.declared.Ending.the-variants.{Done, More, Damaged}
 use Rattle.mframe.specs.declared.Kind.{Kind}
 use Rattle.mframe.specs.declared.Kind.the-variants as K
-use Rattle.answers.specs.declared.Counters.{Counters}
-use Rattle.answers.specs.declared.Record.{Record}
+use Rattle.records.specs.declared.Counters.{Counters}
+use Rattle.records.specs.declared.Record.{Record}
 use Rattle.answers.specs.Answers.{Said, says}
-use Rattle.answers.specs.Records.{strayed, shut, opened, counting}
+use Rattle.records.specs.Records.{strayed, shut, opened, counting}
 use Rattle.assembly.specs.Steps.{Step, delimiterError, unchanged, abandoned, expressOf, heardOf, startOf, endedOf, unexpected, totalOf, continuationOf, stepOf}
 use Rattle.receive.specs.Receive.{leftOf}
 use Rattle.crc.proofs.Endings.{Ends, ends}

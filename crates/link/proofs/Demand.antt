@@ -1,7 +1,7 @@
 -- Demand 3 holds. Assumes nothing.
 use mathlib.Core.List.{[]}
 use native.Mathlib.Omega.{arith}
-use Rattle.answers.specs.Records.{fresh}
+use Rattle.records.specs.Records.{fresh}
 use Rattle.histories.specs.History.{recordAfter, bufferAfter}
 use Rattle.link.specs.Sender.{sent}
 use Rattle.link.specs.Frames.{fates, noneLost}

@@ -11,10 +11,10 @@ use Rattle.crc.specs.Crc.{allOnes}
 use Rattle.crc.specs.Judge.{endingOf}
 use Rattle.heads.specs.Head.{Reading, known, refused, headOf}
 use Rattle.mframe.specs.declared.Kind.the-variants as K
-use Rattle.answers.specs.declared.Counters.{Counters}
-use Rattle.answers.specs.declared.Record.{Record}
+use Rattle.records.specs.declared.Counters.{Counters}
+use Rattle.records.specs.declared.Record.{Record}
 use Rattle.answers.specs.Answers.{Said, says}
-use Rattle.answers.specs.Records.{fresh, counting, inRange}
+use Rattle.records.specs.Records.{fresh, counting, inRange}
 use Rattle.assembly.specs.Steps.{Step, unchanged}
 use Rattle.receive.specs.Receive.{byHead, receivedOf, dataIn, bufferOf, bodyOf}
 use Rattle.heads.proofs.Heads.{Refusal, n12, n13, n14, n15, n16, n17, Good, head-good}

@@ -15,9 +15,9 @@ use Rattle.mframe.specs.declared.Kind.the-variants.{Express, Verify, Respond}
 use Rattle.mframe.proofs.Laws.{Counted}
 use Rattle.send.specs.Preemptable.{checkOf}
 use Rattle.send.proofs.Whole.{check-length}
-use Rattle.answers.specs.declared.Record.{Record}
+use Rattle.records.specs.declared.Record.{Record}
 use Rattle.answers.specs.Answers.{says}
-use Rattle.answers.specs.Records.{inRange}
+use Rattle.records.specs.Records.{inRange}
 use Rattle.assembly.specs.Steps.{Step, stepOf}
 use Rattle.receive.specs.Receive.{receivedOf, leftOf, bufferOf, bodyOf}
 use Rattle.link.specs.Sender.{Fate, arrives, lost, MFrame, express, part, order}

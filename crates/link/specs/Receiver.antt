@@ -6,7 +6,7 @@ use lib.Dec.{eqb}
 use lib.ListN.{length, take}
 use Rattle.heads.specs.Head.{headOf}
 use Rattle.answers.specs.Answers.{Said}
-use Rattle.answers.specs.declared.Record.{Record}
+use Rattle.records.specs.declared.Record.{Record}
 use Rattle.receive.specs.Receive.{receivedOf, bufferOf, bodyOf}
 use Rattle.histories.specs.History.{isStart, refusal}
 use Rattle.link.specs.Frames.{ifSo}

@@ -4,11 +4,11 @@ mod parts;
 
 use crate::parts::front;
 use crate::parts::part;
-use answers::Record;
 use libc::STDERR_FILENO;
 use libc::STDIN_FILENO;
 use libc::STDOUT_FILENO;
 use mframe::BODY_MOST;
+use records::Record;
 use trace::Cursor;
 use trace::Read;
 ghost use Prim.Native.Nat.{_+_, _≤_};

@@ -6,7 +6,7 @@ use Prim.Native.Nat.{ℕ}
 use lib.ListN.{length}
 use Rattle.text.specs.Text.{Put}
 use Rattle.answers.specs.Answers.{Said}
-use Rattle.answers.specs.declared.Record.{Record}
+use Rattle.records.specs.declared.Record.{Record}
 use Rattle.receive.specs.Receive.{receivedOf, bufferOf}
 use Rattle.listing.specs.Lines.{recordLine}
 use Rattle.listing.specs.declared.Listed.{Listed}

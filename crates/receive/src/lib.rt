@@ -1,12 +1,12 @@
 // The receiving side (document 01, "Receiving"): one mFrame to an answer, the record to keep and the assembly buffer; and an express body.
 use answers::Received;
-use answers::Record;
 use answers::Refusal;
 use crc::Ending;
 use heads::Head;
 use mframe::BODY_MOST;
 use mframe::CHECK;
 use mframe::Kind;
+use records::Record;
 ghost use mathlib.Core.Path.{_≡_};
 ghost use Prim.Native.Nat.{_+_, _≤_};
 ghost use lib.ListN.{length};

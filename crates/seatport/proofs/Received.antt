@@ -19,10 +19,10 @@ use Rattle.heads.specs.Head.{Reading, known, refused, headOf}
 use Rattle.mframe.specs.declared.Kind.{Kind}
 use Rattle.mframe.specs.declared.Kind.the-variants as K
 use Rattle.heads.proofs.Heads.{Good, head-good, detail-small}
-use Rattle.answers.specs.declared.Record.{Record}
+use Rattle.records.specs.declared.Record.{Record}
 use Rattle.answers.specs.declared.Received.{Received}
 use Rattle.answers.specs.Answers.{says}
-use Rattle.answers.specs.Records.{inRange, counting, strayed}
+use Rattle.records.specs.Records.{inRange, counting, strayed}
 use Rattle.assembly.specs.Steps.{Step, told, delimiterError, unchanged, abandoned, expressOf, heardOf, startOf, endedOf, unexpected, totalOf, continuationOf, stepOf}
 use Rattle.receive.specs.Receive.{byHead, receivedOf, Answered}
 use Rattle.words.specs.Words.{word, isFlag, isCount}

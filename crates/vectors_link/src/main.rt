@@ -15,7 +15,7 @@ use questions::went::Went;
 struct Link {
     x: u32,
     sender: send::Record,
-    receiver: answers::Record,
+    receiver: records::Record,
     seed: u32,
     length: usize,
     tally: Tally,
@@ -223,7 +223,7 @@ fn entry() -> Went {
     let first = Link {
         x: read::word(&head, 0),
         sender: send::Record::fresh(true, false, 0),
-        receiver: answers::Record::fresh(),
+        receiver: records::Record::fresh(),
         seed: 0,
         length: 0,
         tally: Tally::NONE,

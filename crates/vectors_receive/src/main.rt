@@ -1,8 +1,6 @@
 // Runs the stored questions on the receiving calls. tests/reference/README.md has the format of both files; the answers expected come from
 // the reference alone.
 use answers::Answer;
-use answers::Counters;
-use answers::Record;
 use codes::FragmentCount;
 use codes::FrameCount;
 use questions::read;
@@ -10,6 +8,8 @@ use questions::read::Came;
 use questions::say;
 use questions::went::Next;
 use questions::went::Went;
+use records::Counters;
+use records::Record;
 
 // What is kept from question to question: the record, how many octets of the lent space are the buffer, and how the last one went.
 struct Kept {

@@ -1,8 +1,8 @@
--- `answers::Counters::erred` meets its contract.
+-- `records::Counters::erred` meets its contract.
 -- Assumes nothing.
 use borrow.Author.Needs.{needs}
-use Rattle.answers.proofs.Counters.erred.Statement.{statement}
-use Rattle.answers.proofs.Counters.erred.Tie as tie
+use Rattle.records.proofs.Counters.erred.Statement.{statement}
+use Rattle.records.proofs.Counters.erred.Tie as tie
 
 wrapping-add-u32-requires : tie.Need-wrapping-add-u32-requires
 wrapping-add-u32-requires c κs = search needs

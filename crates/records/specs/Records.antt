@@ -5,8 +5,8 @@ use lib.Dec.{eqb, leb}
 use Rattle.codes.specs.Codes.{frame, fragment}
 use Rattle.codes.specs.declared.FrameCount.{FrameCount}
 use Rattle.codes.specs.declared.FragmentCount.{FragmentCount}
-use Rattle.answers.specs.declared.Counters.{Counters}
-use Rattle.answers.specs.declared.Record.{Record}
+use Rattle.records.specs.declared.Counters.{Counters}
+use Rattle.records.specs.declared.Record.{Record}
 
 -- "32 bits each, going from 4,294,967,295 to 0"
 abbrev pub more : ℕ → ℕ → ℕ

@@ -1,9 +1,9 @@
--- `answers::Record::in_range` meets its contract.
+-- `records::Record::in_range` meets its contract.
 -- Assumes nothing.
-use Rattle.answers.specs.Records.{inRange}
+use Rattle.records.specs.Records.{inRange}
 use Rattle.rules.proofs.Tests.{tests}
-use Rattle.answers.proofs.Record.in_range.Statement.{statement}
-use Rattle.answers.proofs.Record.in_range.Tie as tie
+use Rattle.records.proofs.Record.in_range.Statement.{statement}
+use Rattle.records.proofs.Record.in_range.Tie as tie
 
 returns : tie.Need-returns
 unfolding inRange

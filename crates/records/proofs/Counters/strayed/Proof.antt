@@ -1,8 +1,8 @@
--- `answers::Counters::strayed` meets its contract.
+-- `records::Counters::strayed` meets its contract.
 -- Assumes nothing.
 use borrow.Author.Needs.{needs}
-use Rattle.answers.proofs.Counters.strayed.Statement.{statement}
-use Rattle.answers.proofs.Counters.strayed.Tie as tie
+use Rattle.records.proofs.Counters.strayed.Statement.{statement}
+use Rattle.records.proofs.Counters.strayed.Tie as tie
 
 wrapping-add-u32-requires : tie.Need-wrapping-add-u32-requires
 wrapping-add-u32-requires c κs = search needs
