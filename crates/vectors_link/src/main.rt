@@ -44,12 +44,12 @@ fn arrive(l: Link, mframe: &[u8], buffer: &mut [u8]) -> Link {
         say_body(read::front(buffer, detail));
     }
     let t = l.tally;
-    Link {
-        receiver: after,
-        tally: t.answered(number),
-        written: say::line_end(),
-        ..l
-    }
+    let tally = t.answered(number);
+    let mut next = l;
+    next.receiver = after;
+    next.tally = tally;
+    next.written = say::line_end();
+    next
 }
 
 // The fate of an mFrame of so many octets: lost or not. A preemptable one is not lost while three in a row were.
@@ -57,18 +57,15 @@ fn fate(l: Link, out: &[u8], length: usize, preemptable: bool, buffer: &mut [u8]
     let x = chance::step(l.x);
     let t = l.tally;
     let spared = preemptable && t.run == 3;
+    let mut on = l;
+    on.x = x;
     if chance::one_of(x, 3) == 0 && !spared {
-        return Link {
-            x,
-            tally: t.lost(preemptable),
-            ..l
-        };
+        let lost = t.lost(preemptable);
+        on.tally = lost;
+        return on;
     }
-    let on = Link {
-        x,
-        tally: t.arrived(preemptable),
-        ..l
-    };
+    let arrived = t.arrived(preemptable);
+    on.tally = arrived;
     arrive(on, read::front(out, length), buffer)
 }
 
@@ -90,7 +87,9 @@ fn express(l: Link, space: &mut [u8], out: &mut [u8], buffer: &mut [u8]) -> Link
     let n = body_length(x);
     chance::body(x, n, space);
     let answer = mframe::express(read::front(space, n), out);
-    written(Link { x, ..l }, answer, out, buffer)
+    let mut on = l;
+    on.x = x;
+    written(on, answer, out, buffer)
 }
 
 // A frame chosen for a preemptable call, where none is in progress.
@@ -101,13 +100,13 @@ fn chosen(l: Link) -> Link {
     }
     let x = chance::step(l.x);
     let t = l.tally;
-    Link {
-        x,
-        seed: x,
-        length: body_length(x),
-        tally: t.begun(),
-        ..l
-    }
+    let tally = t.begun();
+    let mut next = l;
+    next.x = x;
+    next.seed = x;
+    next.length = body_length(x);
+    next.tally = tally;
+    next
 }
 
 // The ask of a preemptable call, from two draws.
@@ -128,11 +127,9 @@ fn preemptable(first: Link, space: &mut [u8], out: &mut [u8], buffer: &mut [u8])
     let sent = send::preemptable(s, read::front(space, n), ask_of(a, x), out);
     let answer = sent.answer;
     let after = sent.after;
-    let on = Link {
-        x,
-        sender: after,
-        ..l
-    };
+    let mut on = l;
+    on.x = x;
+    on.sender = after;
     match answer {
         Answer::Wrote { length, done } => ended(fate(on, out, length, true, buffer), done),
         Answer::Refused(_) => on,
@@ -142,35 +139,43 @@ fn preemptable(first: Link, space: &mut [u8], out: &mut [u8], buffer: &mut [u8])
 // The frame's end counts it.
 fn ended(l: Link, done: bool) -> Link {
     let t = l.tally;
+    let mut next = l;
     if done {
-        return Link {
-            tally: t.ended(),
-            ..l
-        };
+        let tally = t.ended();
+        next.tally = tally;
     }
-    l
+    next
 }
 
 fn held(l: Link) -> Link {
     let x = chance::step(l.x);
     let s = l.sender;
     let hold = chance::one_of(x, 4) == 0;
-    let sender = send::Record { hold, ..s };
-    Link { x, sender, ..l }
+    let mut sender = s;
+    sender.hold = hold;
+    let mut next = l;
+    next.x = x;
+    next.sender = sender;
+    next
 }
 
 fn stretched(l: Link) -> Link {
     let x = chance::step(l.x);
     let s = l.sender;
     let extra = (chance::one_of(x, 4) % 256) as u8;
-    let sender = send::Record { extra, ..s };
-    Link { x, sender, ..l }
+    let mut sender = s;
+    sender.extra = extra;
+    let mut next = l;
+    next.x = x;
+    next.sender = sender;
+    next
 }
 
 fn one_turn(before: Link, space: &mut [u8], out: &mut [u8], buffer: &mut [u8]) -> Link {
     let x = chance::step(before.x);
     let d = chance::one_of(x, 16);
-    let l = Link { x, ..before };
+    let mut l = before;
+    l.x = x;
     match d {
         0 => express(l, space, out, buffer),
         1 => {

@@ -36,11 +36,10 @@ impl Tally {
 
     // A frame is chosen.
     pub fn begun(self) -> Tally {
-        Tally {
-            pieces: 0,
-            spoiled: false,
-            ..self
-        }
+        let mut t = self;
+        t.pieces = 0;
+        t.spoiled = false;
+        t
     }
 
     // An mFrame is lost.
@@ -48,14 +47,13 @@ impl Tally {
         if preemptable {
             let run = more(self.run);
             let pieces = more(self.pieces);
-            return Tally {
-                run,
-                longest: greater(self.longest, run),
-                pieces,
-                most: greater(self.most, pieces),
-                spoiled: true,
-                ..self
-            };
+            let mut t = self;
+            t.run = run;
+            t.longest = greater(self.longest, run);
+            t.pieces = pieces;
+            t.most = greater(self.most, pieces);
+            t.spoiled = true;
+            return t;
         }
         self
     }
@@ -64,44 +62,36 @@ impl Tally {
     pub fn arrived(self, preemptable: bool) -> Tally {
         if preemptable {
             let pieces = more(self.pieces);
-            return Tally {
-                run: 0,
-                pieces,
-                most: greater(self.most, pieces),
-                ..self
-            };
+            let mut t = self;
+            t.run = 0;
+            t.pieces = pieces;
+            t.most = greater(self.most, pieces);
+            return t;
         }
         self
     }
 
     // A frame is sent to its end.
     pub fn ended(self) -> Tally {
+        let mut t = self;
+        t.sent = more(self.sent);
         if self.spoiled {
-            return Tally {
-                sent: more(self.sent),
-                ..self
-            };
+            return t;
         }
-        Tally {
-            sent: more(self.sent),
-            whole: more(self.whole),
-            ..self
-        }
+        t.whole = more(self.whole);
+        t
     }
 
     // The receiver answers.
     pub fn answered(self, number: u32) -> Tally {
-        match number {
-            0 => Tally {
-                express: more(self.express),
-                ..self
-            },
-            1 => Tally {
-                delivered: more(self.delivered),
-                ..self
-            },
-            _ => self,
+        let mut t = self;
+        if number == 0 {
+            t.express = more(self.express);
         }
+        if number == 1 {
+            t.delivered = more(self.delivered);
+        }
+        t
     }
 }
 

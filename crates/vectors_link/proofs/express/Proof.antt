@@ -24,7 +24,7 @@ written-requires : tie.Need-written-requires
 written-requires c κs = search needs
 
 same-length : tie.Need-same-length
-same-length c = omega (arith, c .before .before .before .before .before .before .before .before .before .before .before .before .before .before .before .space .given)
+same-length c = omega (arith, c .before .before .before .before .before .before .before .before .before .before .before .before .space .given)
 
 same-length-2 : tie.Need-same-length-2
 same-length-2 c = search needs

@@ -39,10 +39,10 @@ enum-told : tie.Need-enum-told
 enum-told c = search needs
 
 same-length : tie.Need-same-length
-same-length c = omega (arith, c .before .before .before .before .before .before .before .before .before .before .before .before .before .before .before .before .before .before .before .before .before .space .given)
+same-length c = omega (arith, c .before .before .before .before .before .before .before .before .before .before .before .before .before .before .before .before .before .before .before .space .given)
 
 same-length-2 : tie.Need-same-length-2
-same-length-2 c = omega (arith, c .before .before .before .before .before .before .before .before .before .before .before .before .before .out .given)
+same-length-2 c = omega (arith, c .before .before .before .before .before .before .before .before .before .before .before .out .given)
 
 same-length-3 : tie.Need-same-length-3
 same-length-3 c = search needs
