@@ -1,7 +1,7 @@
 """mmlist as a program: however the trace comes.
 
-The program must be built (rt check mmlist). What it lists for stored traces is held to the
-reference by rt; here it is fed by pipes in pieces, and with more than memory would hold.
+The program must be built (rt check mmlist). What it lists for the trace of its crate is held to the
+reference by rt, for the traces of tests/traces here; it is fed by pipes in pieces, and with more than memory would hold.
 test_failures.py has inputs and outputs that fail.
 """
 
@@ -15,9 +15,12 @@ ROOT = Path(__file__).resolve().parents[2]
 COMMAND = [str(ROOT / "scripts" / "run-program"), "mmlist"]
 
 
-def stored(crate):
-    """The trace and the listing stored for a crate."""
-    folder = ROOT / "crates" / crate
+TRACES = ROOT / "tests" / "traces"
+
+
+def stored(name):
+    """The trace and the listing stored under a name."""
+    folder = ROOT / "crates" / name if name == "mmlist" else TRACES / name
     return (folder / "stdin").read_bytes(), (folder / "stdout").read_bytes()
 
 
@@ -36,6 +39,16 @@ def fed(pieces):
     _, status, usage = os.wait4(process.pid, 0)
     process.returncode = os.waitstatus_to_exitcode(status)
     return listing[0], usage.ru_maxrss
+
+
+class Stored(unittest.TestCase):
+    def test_each_trace_is_listed_as_the_reference_lists_it(self):
+        names = sorted(folder.name for folder in TRACES.iterdir())
+        self.assertEqual(len(names), 8)
+        for name in names:
+            with self.subTest(name=name):
+                trace, listing = stored(name)
+                self.assertEqual(fed([trace])[0], listing)
 
 
 class Pieces(unittest.TestCase):

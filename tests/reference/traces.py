@@ -196,8 +196,9 @@ def all_traces():
 def files():
     made = []
     for name, octets in all_traces().items():
-        made.append(stored.StoredFile(f"crates/{name}/stdin", octets, is_text=False))
-        made.append(stored.StoredFile(f"crates/{name}/stdout", mmlist.listing(octets).encode("ascii"), is_text=True))
+        folder = f"crates/{name}" if name == "mmlist" else f"tests/traces/{name}"
+        made.append(stored.StoredFile(f"{folder}/stdin", octets, is_text=False))
+        made.append(stored.StoredFile(f"{folder}/stdout", mmlist.listing(octets).encode("ascii"), is_text=True))
     return made
 
 

@@ -1,4 +1,0 @@
-// The listing of this crate's stored trace.
-fn main() {
-    lister::run();
-}
