@@ -13,19 +13,19 @@ from pathlib import Path
 ROOT = Path(__file__).resolve().parents[2]
 RUN = str(ROOT / "scripts" / "run-program")
 LIST = str(ROOT / "scripts" / "list")
-QUESTIONS = ("vectors_ground", "vectors_send", "vectors_receive", "vectors_verify", "vectors_link")
+QUESTIONS = ("test_ground", "test_send", "test_receive", "test_verify", "test_link")
 READING = ("mmlist", *QUESTIONS)
-WRITING = (*READING, "waits")
+WRITING = (*READING, "test_waits")
 
 # Of each program that runs questions: some that are cut off, unknown, or ask for more octets than any has, 2,049.
 BROKEN = {
-    "vectors_ground": ("00", "07", "ff", "01", "02", "03", "04" + "00" * 25, "05 00000000 0100", "06 0100 0100 0000 00",
+    "test_ground": ("00", "07", "ff", "01", "02", "03", "04" + "00" * 25, "05 00000000 0100", "06 0100 0100 0000 00",
                        "01 00000000 0108" + "00" * 2049, "06 0108 0000 0000" + "00" * 2049),
-    "vectors_send": ("00", "08", "ff", "01 0000 0000", "01 0100 0000 00", "02 0000", "03", "04" + "00" * 20, "05 0100",
+    "test_send": ("00", "08", "ff", "01 0000 0000", "01 0100 0000 00", "02 0000", "03", "04" + "00" * 20, "05 0100",
                      "06" + "00" * 11, "07 0000", "02 0108 00", "05 0108" + "00" * 2049),
-    "vectors_receive": ("00", "04", "ff", "01" + "00" * 30, "02 0000", "03 0100", "02 0108 00", "03 0108" + "00" * 2049),
-    "vectors_verify": ("00", "03", "ff", "01 000000", "02", "01 04000000", "02 07"),
-    "vectors_link": ("00", "00" * 7),
+    "test_receive": ("00", "04", "ff", "01" + "00" * 30, "02 0000", "03 0100", "02 0108 00", "03 0108" + "00" * 2049),
+    "test_verify": ("00", "03", "ff", "01 000000", "02", "01 04000000", "02 07"),
+    "test_link": ("00", "00" * 7),
 }
 
 
@@ -52,7 +52,7 @@ def unwritten(name):
 
 
 def stored(name):
-    """The octets stored for a program, to be read and to be written; waits reads nothing."""
+    """The octets stored for a program, to be read and to be written; test_waits reads nothing."""
     folder = ROOT / "crates" / name
     source = folder / "stdin"
     return source.read_bytes() if source.exists() else b"", (folder / "stdout").read_bytes()

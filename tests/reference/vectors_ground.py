@@ -12,7 +12,7 @@ import stored
 
 
 def files():
-    return stored.vectors("vectors_ground", ground_questions.all_questions(), ground_answers.answers)
+    return stored.vectors("test_ground", ground_questions.all_questions(), ground_answers.answers)
 
 
 if __name__ == "__main__":

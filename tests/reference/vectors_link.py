@@ -12,7 +12,7 @@ import stored
 
 
 def files():
-    return stored.vectors("vectors_link", link_questions.all_questions(), link_answers.answers)
+    return stored.vectors("test_link", link_questions.all_questions(), link_answers.answers)
 
 
 if __name__ == "__main__":

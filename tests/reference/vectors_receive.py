@@ -12,7 +12,7 @@ import stored
 
 
 def files():
-    return stored.vectors("vectors_receive", receive_questions.all_questions(), receive_answers.answers)
+    return stored.vectors("test_receive", receive_questions.all_questions(), receive_answers.answers)
 
 
 if __name__ == "__main__":

@@ -12,7 +12,7 @@ import stored
 
 
 def files():
-    return stored.vectors("vectors_send", send_questions.all_questions(), send_answers.answers)
+    return stored.vectors("test_send", send_questions.all_questions(), send_answers.answers)
 
 
 if __name__ == "__main__":

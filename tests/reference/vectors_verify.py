@@ -12,7 +12,7 @@ import verify_questions
 
 
 def files():
-    return stored.vectors("vectors_verify", verify_questions.all_questions(), verify_answers.answers)
+    return stored.vectors("test_verify", verify_questions.all_questions(), verify_answers.answers)
 
 
 if __name__ == "__main__":

@@ -11,14 +11,14 @@ use Rattle.codes.specs.declared.FrameCount.{FrameCount}
 use Rattle.codes.specs.declared.FragmentCount.{FragmentCount}
 use Rattle.crc.specs.Judge.{endingOf}
 use Rattle.crc.specs.declared.Ending.{Ending}
-use Rattle.records.specs.declared.Record.{Record}
+use Rattle.receiver_record.specs.declared.Record.{Record}
 use Rattle.assembly.specs.declared.Assembly.{Assembly}
 use Rattle.assembly.specs.declared.Assembly.the-variants.{Open, Closed}
 use Rattle.assembly.specs.declared.Counts.{Counts}
 use Rattle.assembly.specs.declared.Counts.the-variants.{Expected, Other}
 use Rattle.assembly.specs.declared.Room.{Room}
 use Rattle.assembly.specs.declared.Room.the-variants.{Enough, Over}
-use Rattle.answers.specs.Answers.{says}
+use Rattle.receiver_answers.specs.Answers.{says}
 use Rattle.assembly.specs.Steps.{unchanged, abandoned, endedOf, unexpected, totalOf, continuationOf}
 use Rattle.assembly.specs.Tests.{Opened, Assembled, other, Fits}
 

@@ -4,12 +4,12 @@ use mathlib.Core.Path.{_≡_, sym, ap, ap₂, _∙_}
 use mathlib.Core.List.{List}
 use Prim.Native.Nat.{ℕ}
 use Rattle.mframe.specs.declared.Kind.{Kind}
-use Rattle.answers.specs.declared.Answer.{Answer}
-use Rattle.answers.specs.declared.Refusal.{Refusal}
-use Rattle.records.specs.declared.Record.{Record}
-use Rattle.answers.specs.declared.Received.{Received}
-use Rattle.answers.specs.Answers.{refused}
-use Rattle.answers.proofs.Answers.{said-one}
+use Rattle.receiver_answers.specs.declared.Answer.{Answer}
+use Rattle.receiver_answers.specs.declared.Refusal.{Refusal}
+use Rattle.receiver_record.specs.declared.Record.{Record}
+use Rattle.receiver_answers.specs.declared.Received.{Received}
+use Rattle.receiver_answers.specs.Answers.{refused}
+use Rattle.receiver_answers.proofs.Answers.{said-one}
 use Rattle.assembly.specs.Steps.{Step, told, unchanged, stepOf}
 
 -- what is told gives the answer and the record back

@@ -14,10 +14,10 @@ use Rattle.crc.specs.declared.Ending.{Ending}
 use Rattle.crc.specs.declared.Ending.the-variants.{Done, More, Damaged}
 use Rattle.mframe.specs.declared.Kind.{Kind}
 use Rattle.mframe.specs.declared.Kind.the-variants as K
-use Rattle.records.specs.declared.Record.{Record}
-use Rattle.answers.specs.declared.Received.{Received}
-use Rattle.answers.specs.Answers.{Said, says, said}
-use Rattle.records.specs.Records.{erred, strayed, joined, completed, shut, opened, counting}
+use Rattle.receiver_record.specs.declared.Record.{Record}
+use Rattle.receiver_answers.specs.declared.Received.{Received}
+use Rattle.receiver_answers.specs.Answers.{Said, says, said}
+use Rattle.receiver_record.specs.Records.{erred, strayed, joined, completed, shut, opened, counting}
 
 -- an answer and the record after it, as the paper tells them
 pub record Step : Type 0 where

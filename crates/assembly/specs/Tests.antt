@@ -4,7 +4,7 @@ use mathlib.Core.Bool.{Bool, true, false}
 use Prim.Native.Nat.{ℕ, _≤_, _<_}
 use Rattle.codes.specs.declared.FrameCount.{FrameCount}
 use Rattle.codes.specs.declared.FragmentCount.{FragmentCount}
-use Rattle.records.specs.declared.Record.{Record}
+use Rattle.receiver_record.specs.declared.Record.{Record}
 use Rattle.assembly.specs.declared.Assembly.{Assembly}
 use Rattle.assembly.specs.declared.Assembly.the-variants as A
 use Rattle.assembly.specs.declared.Counts.{Counts}

@@ -1,21 +1,21 @@
 // What an mFrame of known kind does to the receiving record (document 01, "Receiving" and "Counters"). All of it is by value: memory is
 // lent to the crate above.
-use answers::Answer;
-use answers::Drop;
-use answers::Received;
-use answers::Refusal;
 use codes::FragmentCount;
 use codes::FrameCount;
 use crc::Ending;
 use mframe::BODY_MOST;
 use mframe::CHECK;
 use mframe::Kind;
-use records::Record;
+use receiver_answers::Answer;
+use receiver_answers::Drop;
+use receiver_answers::Received;
+use receiver_answers::Refusal;
+use receiver_record::Record;
 ghost use mathlib.Core.Path.{_≡_};
 ghost use mathlib.Core.Bool.{not, _&&_};
 ghost use Prim.Native.Nat.{_+_, _-_};
 ghost use lib.Dec.{eqb};
-ghost use Rattle.answers.specs.Answers.{said, dropped, refused};
+ghost use Rattle.receiver_answers.specs.Answers.{said, dropped, refused};
 ghost use Rattle.assembly.specs.Steps.{told, delimiterError, unchanged, abandoned, expressOf, heardOf, one, startOf, endedOf, continuationOf, stepOf};
 ghost use Rattle.assembly.specs.Tests.{Assembled, other, Fits};
 

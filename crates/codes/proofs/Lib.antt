@@ -1,4 +1,2 @@
-pub mod Bits
 pub mod Laws
 pub mod Once
-pub mod Sizes

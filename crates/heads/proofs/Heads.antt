@@ -8,13 +8,13 @@ use native.Mathlib.Omega.{arith}
 use borrow.Author.Tests.{ltb-false}
 use lib.Dec.{eqb, ltb}
 use lib.ListN.{length, take, getD}
-use Rattle.codes.specs.Codes.{delimiterOf, fragmentOf}
+use Rattle.delimiters.specs.Delimiters.{delimiterOf, fragmentOf}
 use Rattle.rules.proofs.Tests.{chosen}
-use Rattle.codes.proofs.Sizes.{Small, delimiter-small, SmallFragment, fragment-small}
-use Rattle.codes.specs.declared.Delimiter.{Delimiter}
-use Rattle.codes.specs.declared.Delimiter.the-variants as D
-use Rattle.codes.specs.declared.Fragment.{Fragment}
-use Rattle.codes.specs.declared.Fragment.the-variants as F
+use Rattle.delimiters.proofs.Sizes.{Small, delimiter-small, SmallFragment, fragment-small}
+use Rattle.delimiters.specs.declared.Delimiter.{Delimiter}
+use Rattle.delimiters.specs.declared.Delimiter.the-variants as D
+use Rattle.delimiters.specs.declared.Fragment.{Fragment}
+use Rattle.delimiters.specs.declared.Fragment.the-variants as F
 use Rattle.heads.specs.Head.{Reading, known, refused, all55, sevenOf, sixOf, placedOf, headOf}
 use Rattle.mframe.specs.declared.Kind.{Kind}
 use Rattle.mframe.specs.declared.Kind.the-variants as K

@@ -10,15 +10,16 @@ use borrow.Author.Tests.{le-ltb, ne-eqb}
 use lib.Dec.{eqb, ltb}
 use lib.ListN.{length, take, drop, getD, length-take, drop-of-length-le}
 use lib.Seq.{drop-cons, getD-take, length-take-le}
-use Rattle.codes.specs.Codes.{expressCode, startCode, continuationCode, fragmentCode, verifyCode, respondCode, meaning, delimiterOf, fragmentOf}
+use Rattle.codes.specs.Codes.{expressCode, startCode, continuationCode, fragmentCode, verifyCode, respondCode}
+use Rattle.delimiters.specs.Delimiters.{meaning, delimiterOf, fragmentOf}
 use Rattle.codes.specs.declared.FrameCount.{FrameCount}
-use Rattle.codes.specs.declared.Delimiter.the-variants as D
-use Rattle.codes.proofs.Laws.{start-read, continuation-read, fragment-read, express-read, verify-read, respond-read}
+use Rattle.delimiters.specs.declared.Delimiter.the-variants as D
+use Rattle.delimiters.proofs.Laws.{start-read, continuation-read, fragment-read, express-read, verify-read, respond-read}
 use Rattle.mframe.specs.declared.Kind.{Kind}
 use Rattle.mframe.specs.declared.Kind.the-variants.{Express, Start, Continuation, Verify, Respond}
 use Rattle.mframe.specs.Octets.{afterSeven, afterSix, headerOf}
 use Rattle.heads.specs.Head.{known, refused, all55, sixOf, sevenOf, placedOf, headOf}
-use Rattle.mframe.proofs.Laws.{Counted, header-length, mframe-length}
+use Rattle.mframe.proofs.Laws.{Counted}
 
 -- a place of the preamble more
 pub preamble-turn : (m : List ℕ) (i : ℕ) → i < 6 → 6 ≤ length m

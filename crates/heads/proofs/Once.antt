@@ -5,10 +5,8 @@ use mathlib.Core.Bool.{cond}
 use mathlib.Core.List.{List}
 use Prim.Native.Nat.{ℕ}
 use lib.Dec.{eqb}
-use Rattle.mframe.specs.Sending.{refused, number}
 use Rattle.heads.specs.Head.{Reading, faultNumber, faultDetail, reading, headOf}
 use Rattle.heads.specs.Head as H
-use Rattle.mframe.specs.declared.Answer.the-variants.{Refused}
 use Rattle.heads.specs.declared.Head.{Head}
 use Rattle.heads.specs.declared.Head.the-variants as Heads
 use Rattle.heads.specs.declared.Fault.{Fault}

@@ -4,12 +4,12 @@ use mathlib.Core.List.{List, [], _∷_}
 use Prim.Native.Nat.{ℕ}
 use lib.Dec.{eqb, ltb}
 use lib.ListN.{length, take, getD}
-use Rattle.codes.specs.Codes.{delimiterOf, fragmentOf}
+use Rattle.delimiters.specs.Delimiters.{delimiterOf, fragmentOf}
 use Rattle.codes.specs.declared.FrameCount.{FrameCount}
-use Rattle.codes.specs.declared.Delimiter.{Delimiter}
-use Rattle.codes.specs.declared.Delimiter.the-variants as D
-use Rattle.codes.specs.declared.Fragment.{Fragment}
-use Rattle.codes.specs.declared.Fragment.the-variants as F
+use Rattle.delimiters.specs.declared.Delimiter.{Delimiter}
+use Rattle.delimiters.specs.declared.Delimiter.the-variants as D
+use Rattle.delimiters.specs.declared.Fragment.{Fragment}
+use Rattle.delimiters.specs.declared.Fragment.the-variants as F
 use Rattle.mframe.specs.declared.Kind.{Kind}
 use Rattle.mframe.specs.declared.Kind.the-variants as K
 use Rattle.heads.specs.declared.Head.{Head}

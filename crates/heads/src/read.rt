@@ -1,15 +1,15 @@
 // The head of any octets: the kind with its counts and where the data begin, or the refusal.
 use crate::Fault;
 use crate::Head;
-use codes::Delimiter;
-use codes::Fragment;
 use codes::FrameCount;
+use delimiters::Delimiter;
+use delimiters::Fragment;
 use mframe::HEADER;
 use mframe::Kind;
 ghost use mathlib.Core.Path.{_≡_};
 ghost use Prim.Native.Nat.{_≤_};
 ghost use lib.ListN.{length, take};
-ghost use Rattle.codes.specs.Codes.{delimiterOf, fragmentOf};
+ghost use Rattle.delimiters.specs.Delimiters.{delimiterOf, fragmentOf};
 ghost use Rattle.heads.specs.Head.{all55, reading, sevenOf, sixOf, codedOf, headOf};
 
 // The least and the greatest mFrame.
@@ -36,7 +36,7 @@ fn preambled(mframe: &[u8]) -> bool
 fn at_seven(octet: u8) -> Head
     ensures { λ r. ⌜ reading r ≡ sevenOf (delimiterOf octet) ⌝ }
 {
-    match codes::delimiter_of(octet) {
+    match delimiters::delimiter_of(octet) {
         Delimiter::Express => Head::Known(Kind::Express, HEADER),
         Delimiter::Start(frame) => Head::Known(Kind::Start(frame), HEADER),
         Delimiter::Continuation(_) => Head::Refused(Fault::Place),
@@ -50,7 +50,7 @@ fn at_seven(octet: u8) -> Head
 fn coded(frame: FrameCount, octet: u8) -> Head
     ensures { λ r. ⌜ reading r ≡ codedOf frame (fragmentOf octet) ⌝ }
 {
-    match codes::fragment_of(octet) {
+    match delimiters::fragment_of(octet) {
         Fragment::Known(fragment) => Head::Known(Kind::Continuation(frame, fragment), HEADER),
         Fragment::Unknown => Head::Refused(Fault::Fragment),
     }
@@ -60,7 +60,7 @@ fn coded(frame: FrameCount, octet: u8) -> Head
 fn at_six(octet: u8, code: u8) -> Head
     ensures { λ r. ⌜ reading r ≡ sixOf (delimiterOf octet) (fragmentOf code) ⌝ }
 {
-    match codes::delimiter_of(octet) {
+    match delimiters::delimiter_of(octet) {
         Delimiter::Continuation(frame) => coded(frame, code),
         Delimiter::Express => Head::Refused(Fault::Place),
         Delimiter::Start(_) => Head::Refused(Fault::Place),

@@ -18,10 +18,10 @@ use Rattle.crc.specs.declared.Ending.{Ending}
 use Rattle.crc.specs.declared.Ending.the-variants.{Done, More, Damaged}
 use Rattle.mframe.specs.declared.Kind.{Kind}
 use Rattle.mframe.specs.declared.Kind.the-variants as K
-use Rattle.records.specs.declared.Counters.{Counters}
-use Rattle.records.specs.declared.Record.{Record}
-use Rattle.answers.specs.Answers.{Said, says}
-use Rattle.records.specs.Records.{strayed, shut, opened, counting}
+use Rattle.receiver_record.specs.declared.Counters.{Counters}
+use Rattle.receiver_record.specs.declared.Record.{Record}
+use Rattle.receiver_answers.specs.Answers.{Said, says}
+use Rattle.receiver_record.specs.Records.{strayed, shut, opened, counting}
 use Rattle.assembly.specs.Steps.{Step, delimiterError, unchanged, abandoned, expressOf, heardOf, startOf, endedOf, unexpected, totalOf, continuationOf, stepOf}
 use Rattle.receive.specs.Receive.{leftOf}
 use Rattle.crc.proofs.Endings.{Ends, ends}

@@ -15,7 +15,8 @@ use Rattle.cut.specs.declared.Ask.{Ask}
 use Rattle.cut.specs.declared.Part.{Part}
 use Rattle.cut.specs.declared.Part.the-variants as P
 use Rattle.mframe.specs.Octets.{mFrameOf}
-use Rattle.mframe.specs.Sending.{Outcome, refuse, write, short, expressOf, zeros, orderOf}
+use Rattle.sender_answers.specs.Answers.{Outcome, refuse, write, short}
+use Rattle.single.specs.Single.{expressOf, zeros, orderOf}
 use Rattle.mframe.specs.declared.Kind.{Kind}
 use Rattle.mframe.specs.declared.Kind.the-variants.{Express, Verify, Respond}
 use Rattle.send.specs.Preemptable.{refusalOf, partNow, endOf, isDone, mFrame, Step, go, sentOf, unless, preemptableOf}

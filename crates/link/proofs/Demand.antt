@@ -1,8 +1,8 @@
 -- Demand 3 holds. Assumes nothing.
 use mathlib.Core.List.{[]}
 use native.Mathlib.Omega.{arith}
-use Rattle.records.specs.Records.{fresh}
-use Rattle.histories.specs.History.{recordAfter, bufferAfter}
+use Rattle.receiver_record.specs.Records.{fresh}
+use Rattle.receive_histories.specs.History.{recordAfter, bufferAfter}
 use Rattle.link.specs.Sender.{sent}
 use Rattle.link.specs.Frames.{fates, noneLost}
 use Rattle.link.specs.Demand.{Demand3}

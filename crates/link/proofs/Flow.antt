@@ -7,7 +7,7 @@ use lib.ListN.{length}
 use Rattle.crc.specs.Crc.{allOnes, registerOver, fcsOf, mcrcOf}
 use Rattle.codes.specs.Codes.{frame, fragment}
 use Rattle.mframe.specs.Octets.{mFrameOf}
-use Rattle.mframe.specs.Sending.{zeros}
+use Rattle.single.specs.Single.{zeros}
 use Rattle.mframe.specs.declared.Kind.{Kind}
 use Rattle.mframe.specs.declared.Kind.the-variants.{Express, Start, Continuation, Verify, Respond}
 use Rattle.mframe.proofs.Laws.{Counted}

@@ -11,15 +11,15 @@ use Rattle.crc.specs.Crc.{allOnes}
 use Rattle.crc.specs.Judge.{endingOf}
 use Rattle.heads.specs.Head.{Reading, known, refused, headOf}
 use Rattle.mframe.specs.declared.Kind.the-variants as K
-use Rattle.records.specs.declared.Counters.{Counters}
-use Rattle.records.specs.declared.Record.{Record}
-use Rattle.answers.specs.Answers.{Said, says}
-use Rattle.records.specs.Records.{fresh, counting, inRange}
+use Rattle.receiver_record.specs.declared.Counters.{Counters}
+use Rattle.receiver_record.specs.declared.Record.{Record}
+use Rattle.receiver_answers.specs.Answers.{Said, says}
+use Rattle.receiver_record.specs.Records.{fresh, counting, inRange}
 use Rattle.assembly.specs.Steps.{Step, unchanged}
 use Rattle.receive.specs.Receive.{byHead, receivedOf, dataIn, bufferOf, bodyOf}
 use Rattle.heads.proofs.Heads.{Refusal, n12, n13, n14, n15, n16, n17, Good, head-good}
 use Rattle.crc.proofs.Endings.{ends}
-use Rattle.histories.specs.History.{isStart, refusal}
+use Rattle.receive_histories.specs.History.{isStart, refusal}
 use Rattle.link.specs.Frames.{ifSo}
 use Rattle.link.specs.Receiver.{Given, receiving, unrefusedStart}
 use Rattle.link.specs.Demand.{InStep}

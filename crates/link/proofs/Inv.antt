@@ -8,9 +8,9 @@ use borrow.Author.Tests.{le-leb}
 use lib.ListN.{length, take}
 use Rattle.crc.specs.Crc.{allOnes, registerOver}
 use Rattle.codes.specs.Codes.{frame, fragment}
-use Rattle.records.specs.declared.Counters.{Counters}
-use Rattle.records.specs.declared.Record.{Record}
-use Rattle.records.specs.Records.{shut, opened, inRange}
+use Rattle.receiver_record.specs.declared.Counters.{Counters}
+use Rattle.receiver_record.specs.declared.Record.{Record}
+use Rattle.receiver_record.specs.Records.{shut, opened, inRange}
 use Rattle.link.proofs.Counts.{further}
 use Rattle.link.proofs.Flow.{Sender, idle, busy, onward}
 

@@ -16,10 +16,10 @@ use Rattle.crc.proofs.Endings.{ending-done, ending-more}
 use Rattle.codes.specs.Codes.{frame, fragment}
 use Rattle.mframe.proofs.Laws.{Counted}
 use Rattle.send.specs.Preemptable.{checkOf}
-use Rattle.records.specs.declared.Counters.{Counters}
-use Rattle.records.specs.declared.Record.{Record}
-use Rattle.answers.specs.Answers.{Said, says}
-use Rattle.records.specs.Records.{shut, opened}
+use Rattle.receiver_record.specs.declared.Counters.{Counters}
+use Rattle.receiver_record.specs.declared.Record.{Record}
+use Rattle.receiver_answers.specs.Answers.{Said, says}
+use Rattle.receiver_record.specs.Records.{shut, opened}
 use Rattle.assembly.specs.Steps.{Step, endedOf, continuationOf, stepOf}
 use Rattle.receive.specs.Receive.{leftOf}
 use Rattle.link.specs.Frames.{ifSo}

@@ -9,15 +9,15 @@ use Rattle.crc.specs.Crc.{allOnes, registerOver, fcsOf, mcrcOf}
 use Rattle.crc.proofs.Laws.{fcs-length, mcrc-length}
 use Rattle.crc.proofs.Endings.{ending-done, ending-more}
 use Rattle.mframe.specs.Octets.{mFrameOf}
-use Rattle.mframe.specs.Sending.{zeros}
+use Rattle.single.specs.Single.{zeros}
 use Rattle.mframe.specs.declared.Kind.{Kind}
 use Rattle.mframe.specs.declared.Kind.the-variants.{Express, Verify, Respond}
 use Rattle.mframe.proofs.Laws.{Counted}
 use Rattle.send.specs.Preemptable.{checkOf}
 use Rattle.send.proofs.Whole.{check-length}
-use Rattle.records.specs.declared.Record.{Record}
-use Rattle.answers.specs.Answers.{says}
-use Rattle.records.specs.Records.{inRange}
+use Rattle.receiver_record.specs.declared.Record.{Record}
+use Rattle.receiver_answers.specs.Answers.{says}
+use Rattle.receiver_record.specs.Records.{inRange}
 use Rattle.assembly.specs.Steps.{Step, stepOf}
 use Rattle.receive.specs.Receive.{receivedOf, leftOf, bufferOf, bodyOf}
 use Rattle.link.specs.Sender.{Fate, arrives, lost, MFrame, express, part, order}

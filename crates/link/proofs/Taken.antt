@@ -14,8 +14,8 @@ use Rattle.heads.specs.Head.{known, headOf}
 use Rattle.mframe.specs.declared.Kind.{Kind}
 use Rattle.mframe.proofs.Laws.{Counted, header-length}
 use Rattle.heads.proofs.Laws.{head-read}
-use Rattle.records.specs.declared.Record.{Record}
-use Rattle.records.specs.Records.{fresh, inRange}
+use Rattle.receiver_record.specs.declared.Record.{Record}
+use Rattle.receiver_record.specs.Records.{fresh, inRange}
 use Rattle.assembly.specs.Steps.{stepOf}
 use Rattle.receive.specs.Receive.{receivedOf, leftOf, bufferOf, bodyOf}
 

@@ -9,9 +9,9 @@ use mathlib.Core.List.{List, _∷_}
 use mathlib.Core.Option.{none}
 use Prim.Native.Nat.{ℕ, _≤_}
 use lib.ListN.{length}
-use Rattle.records.specs.declared.Record.{Record}
-use Rattle.records.specs.Records.{fresh}
-use Rattle.histories.specs.History.{recordAfter, bufferAfter}
+use Rattle.receiver_record.specs.declared.Record.{Record}
+use Rattle.receiver_record.specs.Records.{fresh}
+use Rattle.receive_histories.specs.History.{recordAfter, bufferAfter}
 use Rattle.link.specs.Sender.{Call, MFrame, sent}
 use Rattle.link.specs.Frames.{SameToEnd, fates, NeverFour, arrivals, expressExpected, preemptableExpected}
 use Rattle.link.specs.Receiver.{Given, receiving, expressLane, preemptableLane, unrefusedStart}

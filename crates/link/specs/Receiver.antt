@@ -5,10 +5,10 @@ use Prim.Native.Nat.{ℕ}
 use lib.Dec.{eqb}
 use lib.ListN.{length, take}
 use Rattle.heads.specs.Head.{headOf}
-use Rattle.answers.specs.Answers.{Said}
-use Rattle.records.specs.declared.Record.{Record}
+use Rattle.receiver_answers.specs.Answers.{Said}
+use Rattle.receiver_record.specs.declared.Record.{Record}
 use Rattle.receive.specs.Receive.{receivedOf, bufferOf, bodyOf}
-use Rattle.histories.specs.History.{isStart, refusal}
+use Rattle.receive_histories.specs.History.{isStart, refusal}
 use Rattle.link.specs.Frames.{ifSo}
 
 -- what a call gives its caller: the answer; by 0 the express body, through the separate call; by 1 a preemptable body, the buffer's first octets

@@ -5,7 +5,8 @@ use Prim.Native.Nat.{ℕ}
 use lib.ListN.{length, take}
 use Rattle.octets.specs.Laid.{over}
 use Rattle.cut.specs.declared.Ask.{Ask}
-use Rattle.mframe.specs.Sending.{Said, wrote, refused, expressOf, orderOf}
+use Rattle.sender_answers.specs.Answers.{Said, wrote, refused}
+use Rattle.single.specs.Single.{expressOf, orderOf}
 use Rattle.mframe.specs.declared.Kind.the-variants.{Verify, Respond}
 use Rattle.send.specs.Record.{freshOf}
 use Rattle.send.specs.Preemptable.{preemptableOf}

@@ -8,7 +8,7 @@ use libc::STDERR_FILENO;
 use libc::STDIN_FILENO;
 use libc::STDOUT_FILENO;
 use mframe::BODY_MOST;
-use records::Record;
+use receiver_record::Record;
 use trace::Cursor;
 use trace::Read;
 ghost use Prim.Native.Nat.{_+_, _≤_};

@@ -5,7 +5,7 @@ use mathlib.Core.List.{List, [], _∷_, _++_}
 use Prim.Native.Nat.{ℕ, _≤_}
 use native.Mathlib.Omega.{arith}
 use lib.ListN.{length, length-append}
-use Rattle.answers.specs.Answers.{Said}
+use Rattle.receiver_answers.specs.Answers.{Said}
 use Rattle.text.specs.Text.{lineEnd, Put}
 use Rattle.text.proofs.Laws.{digits-length}
 use Rattle.listing.specs.Lines.{next, pairLine, recordLine}

@@ -4,7 +4,7 @@ use mathlib.Core.Path.{_≡_, sym, _∙_}
 use mathlib.Core.List.{List}
 use Prim.Native.Nat.{ℕ}
 use Rattle.text.proofs.Once.{put-once}
-use Rattle.records.specs.declared.Record.{Record}
+use Rattle.receiver_record.specs.declared.Record.{Record}
 use Rattle.listing.specs.Lists.{Lists}
 use Rattle.listing.specs.declared.Listed.{Listed}
 

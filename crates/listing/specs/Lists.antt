@@ -5,8 +5,8 @@ use mathlib.Core.List.{List}
 use Prim.Native.Nat.{ℕ}
 use lib.ListN.{length}
 use Rattle.text.specs.Text.{Put}
-use Rattle.answers.specs.Answers.{Said}
-use Rattle.records.specs.declared.Record.{Record}
+use Rattle.receiver_answers.specs.Answers.{Said}
+use Rattle.receiver_record.specs.declared.Record.{Record}
 use Rattle.receive.specs.Receive.{receivedOf, bufferOf}
 use Rattle.listing.specs.Lines.{recordLine}
 use Rattle.listing.specs.declared.Listed.{Listed}

@@ -1,5 +1,5 @@
 // The lines of the listing (document 01, "Trace and listing"), laid into lent memory, and what a record of the trace makes.
-use records::Record;
+use receiver_record::Record;
 ghost use Prim.Native.Nat.{_+_, _≤_};
 ghost use lib.ListN.{length};
 ghost use Rattle.text.specs.Text.{Put};

@@ -5,7 +5,7 @@ use mathlib.Core.List.{map}
 use lib.Count.{ones, onesIn}
 use Rattle.octets.specs.Word.{octetsOf}
 use Rattle.crc.specs.Crc.{bitStep, bitSteps, octetStep, registerOver, fcsOf, mcrcOf}
-use Rattle.codes.specs.Codes.{leastOf, distanceOf}
+use Rattle.delimiters.specs.Delimiters.{leastOf, distanceOf}
 use Rattle.cut.specs.Cut.{lawful, firstOf, partOf}
 use Rattle.marked.specs.Table.{Example, answer, table}
 

@@ -3,7 +3,7 @@
 use mathlib.Core.List.{List, [], _∷_}
 use Prim.Native.Nat.{ℕ}
 use Rattle.crc.specs.Crc.{allOnes, registerOver, fcsOf, mcrcOf}
-use Rattle.codes.specs.Codes.{distanceOf}
+use Rattle.delimiters.specs.Delimiters.{distanceOf}
 use Rattle.cut.specs.Cut.{minimum, partOf}
 use Rattle.cut.specs.declared.Ask.the-variants.{At}
 use Rattle.cut.specs.declared.Part.{Part}

@@ -1,14 +1,10 @@
-// What an mFrame is (document 01, "Octets of an mFrame"): one written whole into lent memory.
-mod write;
-
+// What an mFrame is (document 01, "Octets of an mFrame"): its lengths and kinds, and one laid whole into lent memory.
 use codes::FragmentCount;
 use codes::FrameCount;
-pub use write::express;
-pub use write::lay;
-pub use write::respond;
-pub use write::verify;
 ghost use mathlib.Core.Path.{_≡_};
-ghost use Rattle.mframe.specs.Sending.{number};
+ghost use Prim.Native.Nat.{_≤_};
+ghost use lib.ListN.{length};
+ghost use Rattle.mframe.specs.Octets.{afterSeven, afterSix, headerOf, mFrameOf, Laid};
 
 // The least output buffer.
 pub const OUTPUT_LEAST: usize = 1530;
@@ -31,31 +27,38 @@ pub enum Kind {
     Respond,
 }
 
-// Why a sending call refuses: 30 to 34.
-pub enum Refusal {
-    Output,
-    Record,
-    Body,
-    Length,
-    Hold,
+fn after_seven(delimiter: u8) -> [u8; 8]
+    ensures { λ h. ⌜ h ≡ afterSeven delimiter ⌝ }
+{
+    [0x55, 0x55, 0x55, 0x55, 0x55, 0x55, 0x55, delimiter]
 }
 
-impl Refusal {
-    pub fn number(self) -> u32
-        ensures { λ n. ⌜ n ≡ number self ⌝ }
-    {
-        match self {
-            Refusal::Output => 30,
-            Refusal::Record => 31,
-            Refusal::Body => 32,
-            Refusal::Length => 33,
-            Refusal::Hold => 34,
-        }
+fn after_six(delimiter: u8, fragment: u8) -> [u8; 8]
+    ensures { λ h. ⌜ h ≡ afterSix delimiter fragment ⌝ }
+{
+    [0x55, 0x55, 0x55, 0x55, 0x55, 0x55, delimiter, fragment]
+}
+
+fn header(kind: Kind) -> [u8; 8]
+    ensures { λ h. ⌜ h ≡ headerOf kind ⌝ }
+{
+    match kind {
+        Kind::Express => after_seven(codes::EXPRESS),
+        Kind::Start(frame) => after_seven(frame.code()),
+        Kind::Continuation(frame, fragment) => after_six(frame.continued(), fragment.code()),
+        Kind::Verify => after_seven(codes::VERIFY),
+        Kind::Respond => after_seven(codes::RESPOND),
     }
 }
 
-// What a sending call answers.
-pub enum Answer {
-    Wrote { length: usize, done: bool },
-    Refused(Refusal),
+// Header, data and check octets at the front of the memory; their number.
+pub fn lay(kind: Kind, part: &[u8], check: [u8; 4], out: &mut [u8]) -> usize
+    requires { ⌜ (length (now part) ≤ 1518) × (1530 ≤ length (now out)) ⌝ }
+    ensures { λ n. ⌜ Laid (mFrameOf kind (now (part .entry)) check) (now (out .entry)) n (now (out .exit)) ⌝ }
+{
+    let end = HEADER + part.len();
+    octets::copy_into(&header(kind), out, 0);
+    octets::copy_into(part, out, HEADER);
+    octets::copy_into(&check, out, end);
+    end + CHECK
 }

@@ -20,9 +20,9 @@ use Rattle.mframe.specs.declared.Kind.{Kind}
 use Rattle.mframe.specs.declared.Kind.the-variants as K
 use Rattle.heads.specs.declared.Fault.{Fault}
 use Rattle.heads.specs.declared.Fault.the-variants.{Short, Long, Preamble, Delimiter, Place, Fragment}
-use Rattle.records.specs.declared.Record.{Record}
-use Rattle.answers.specs.Answers.{Said, says}
-use Rattle.records.specs.Records.{fresh}
+use Rattle.receiver_record.specs.declared.Record.{Record}
+use Rattle.receiver_answers.specs.Answers.{Said, says}
+use Rattle.receiver_record.specs.Records.{fresh}
 use Rattle.assembly.specs.Steps.{Step, unchanged, abandoned, expressOf, heardOf, startOf, endedOf, unexpected, totalOf, continuationOf, stepOf}
 use Rattle.receive.specs.Receive.{writes, isDone, expressDelivered}
 

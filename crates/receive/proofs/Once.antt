@@ -3,8 +3,8 @@
 use mathlib.Core.Path.{_≡_, sym, _∙_}
 use mathlib.Core.List.{List}
 use Prim.Native.Nat.{ℕ}
-use Rattle.records.specs.declared.Record.{Record}
-use Rattle.answers.specs.declared.Received.{Received}
+use Rattle.receiver_record.specs.declared.Record.{Record}
+use Rattle.receiver_answers.specs.declared.Received.{Received}
 use Rattle.assembly.proofs.Once.{told-one}
 use Rattle.receive.specs.Receive.{Answered, bodyOf}
 

@@ -17,10 +17,10 @@ use Rattle.mframe.specs.declared.Kind.{Kind}
 use Rattle.heads.specs.declared.Fault.{Fault}
 use Rattle.heads.specs.declared.Head.{Head}
 use Rattle.heads.specs.declared.Head.the-variants.{Known, Refused}
-use Rattle.records.specs.declared.Record.{Record}
-use Rattle.answers.specs.declared.Received.{Received}
-use Rattle.answers.specs.Answers.{Said, says, said}
-use Rattle.records.specs.Records.{fresh, inRange}
+use Rattle.receiver_record.specs.declared.Record.{Record}
+use Rattle.receiver_answers.specs.declared.Received.{Received}
+use Rattle.receiver_answers.specs.Answers.{Said, says, said}
+use Rattle.receiver_record.specs.Records.{fresh, inRange}
 use Rattle.assembly.specs.Steps.{Step, told, unchanged, stepOf}
 use Rattle.receive.specs.Receive.{byHead, receivedOf, upTo, writes, leftOf, dataIn, bufferOf, Answered, Taken, expressDelivered, bodyOf}
 use Rattle.heads.proofs.Heads.{Good, head-good}

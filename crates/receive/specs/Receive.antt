@@ -14,10 +14,10 @@ use Rattle.crc.specs.declared.Ending.the-variants.{Done, More, Damaged}
 use Rattle.heads.specs.Head.{Reading, known, refused, headOf}
 use Rattle.mframe.specs.declared.Kind.{Kind}
 use Rattle.mframe.specs.declared.Kind.the-variants as K
-use Rattle.records.specs.declared.Record.{Record}
-use Rattle.answers.specs.declared.Received.{Received}
-use Rattle.answers.specs.Answers.{Said, says}
-use Rattle.records.specs.Records.{fresh, inRange}
+use Rattle.receiver_record.specs.declared.Record.{Record}
+use Rattle.receiver_answers.specs.declared.Received.{Received}
+use Rattle.receiver_answers.specs.Answers.{Said, says}
+use Rattle.receiver_record.specs.Records.{fresh, inRange}
 use Rattle.assembly.specs.Steps.{Step, told, unchanged, stepOf}
 
 -- by what the head says: 12 to 17, or by kind, with the octets from where the data begin

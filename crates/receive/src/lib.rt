@@ -1,12 +1,12 @@
 // The receiving side (document 01, "Receiving"): one mFrame to an answer, the record to keep and the assembly buffer; and an express body.
-use answers::Received;
-use answers::Refusal;
 use crc::Ending;
 use heads::Head;
 use mframe::BODY_MOST;
 use mframe::CHECK;
 use mframe::Kind;
-use records::Record;
+use receiver_answers::Received;
+use receiver_answers::Refusal;
+use receiver_record::Record;
 ghost use mathlib.Core.Path.{_≡_};
 ghost use Prim.Native.Nat.{_+_, _≤_};
 ghost use lib.ListN.{length};

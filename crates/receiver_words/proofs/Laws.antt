@@ -5,7 +5,7 @@ use mathlib.Core.Bool.{true}
 use mathlib.Core.List.{List, [], _∷_}
 use Prim.Native.Nat.{ℕ, _≤_}
 use borrow.Author.Tests.{leb-true}
-use Rattle.records.specs.declared.Record.{Record as Receiver}
+use Rattle.receiver_record.specs.declared.Record.{Record as Receiver}
 use Rattle.words.specs.Words.{word, isFlag, isCount}
 use Rattle.words.proofs.Laws.{flag-read, flag-written}
 use Rattle.receiver_words.specs.Receiver.{receiverWords, receiverFits, receiverOf}

@@ -4,7 +4,7 @@ use mathlib.Core.Bool.{Bool, _&&_}
 use mathlib.Core.List.{List, [], _∷_}
 use Prim.Native.Nat.{ℕ}
 use Rattle.codes.specs.Codes.{frame, fragment}
-use Rattle.records.specs.declared.Record.{Record}
+use Rattle.receiver_record.specs.declared.Record.{Record}
 use Rattle.words.specs.Words.{flag, word, isFlag, flagAt, isCount}
 
 -- the receiving record in nine words, the four counters last

@@ -1,8 +1,8 @@
 // The receiving record as words of 32 bits.
 use codes::FragmentCount;
 use codes::FrameCount;
-use records::Counters;
-use records::Record;
+use receiver_record::Counters;
+use receiver_record::Record;
 ghost use mathlib.Core.Path.{_≡_};
 ghost use mathlib.Core.Bool.{true};
 ghost use Prim.Native.Nat.{_<_, _^_};

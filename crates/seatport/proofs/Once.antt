@@ -3,7 +3,7 @@
 use mathlib.Core.Path.{_≡_, sym, _∙_}
 use mathlib.Core.List.{List}
 use Prim.Native.Nat.{ℕ}
-use Rattle.mframe.specs.Sending.{Outcome}
+use Rattle.sender_answers.specs.Answers.{Outcome}
 use Rattle.trace.specs.Trace.{Said}
 use Rattle.seatport.specs.Sending.{Wrote, Sending, Sent}
 use Rattle.seatport.specs.Receiving.{Receiving, Received, partOf}

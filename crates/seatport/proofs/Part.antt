@@ -11,7 +11,7 @@ use lib.Seq.{length-take-le}
 use Rattle.crc.specs.Judge.{dataOf}
 use Rattle.heads.specs.Head.{Reading, known, refused, headOf}
 use Rattle.heads.proofs.Heads.{Good, head-good, no-delivery}
-use Rattle.records.specs.Records.{fresh, inRange}
+use Rattle.receiver_record.specs.Records.{fresh, inRange}
 use Rattle.receive.specs.Receive.{byHead, receivedOf, dataIn, bodyOf}
 use Rattle.seatport.specs.Receiving.{startOf, partOf}
 

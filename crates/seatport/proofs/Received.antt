@@ -5,7 +5,7 @@ use mathlib.Core.Bool.{Bool, true, false, cond, not}
 use mathlib.Core.List.{List}
 use Prim.Native.Nat.{ℕ, _≤_, _<_, _^_}
 use native.Mathlib.Omega.{arith}
-use borrow.Author.Tests.{leb-true, ltb-false}
+use borrow.Author.Tests.{ltb-false}
 use lib.Dec.{ltb}
 use lib.ListN.{length, drop, length-drop}
 use Rattle.codes.specs.declared.FrameCount.{FrameCount}
@@ -19,16 +19,15 @@ use Rattle.heads.specs.Head.{Reading, known, refused, headOf}
 use Rattle.mframe.specs.declared.Kind.{Kind}
 use Rattle.mframe.specs.declared.Kind.the-variants as K
 use Rattle.heads.proofs.Heads.{Good, head-good, detail-small}
-use Rattle.records.specs.declared.Record.{Record}
-use Rattle.answers.specs.declared.Received.{Received}
-use Rattle.answers.specs.Answers.{says}
-use Rattle.records.specs.Records.{inRange, counting, strayed}
+use Rattle.receiver_record.specs.declared.Record.{Record}
+use Rattle.receiver_answers.specs.declared.Received.{Received}
+use Rattle.receiver_answers.specs.Answers.{says}
+use Rattle.receiver_record.specs.Records.{inRange, counting, strayed}
 use Rattle.assembly.specs.Steps.{Step, told, delimiterError, unchanged, abandoned, expressOf, heardOf, startOf, endedOf, unexpected, totalOf, continuationOf, stepOf}
 use Rattle.receive.specs.Receive.{byHead, receivedOf, Answered}
-use Rattle.words.specs.Words.{word, isFlag, isCount}
-use Rattle.receiver_words.specs.Receiver.{receiverWords, receiverFits}
+use Rattle.receiver_words.specs.Receiver.{receiverWords}
 use Rattle.seatport.specs.Receiving as S
-use Rattle.rules.proofs.Tests.{both, chosen}
+use Rattle.rules.proofs.Tests.{chosen}
 
 -- a step whose detail and octets kept fit words
 pub record Fits (p : Step) : Type 0 where

@@ -1,19 +1,15 @@
 -- The sending calls' own promises, told in words.
 -- Assumes nothing.
 use mathlib.Core.Path.{_≡_, ap, _∙_}
-use mathlib.Core.Bool.{true}
 use mathlib.Core.List.{List}
-use Prim.Native.Nat.{ℕ, _≤_}
-use borrow.Author.Tests.{leb-true}
-use Rattle.mframe.specs.Sending.{said, Outcome, Answered}
-use Rattle.mframe.specs.declared.Answer.{Answer}
+use Prim.Native.Nat.{ℕ}
+use Rattle.sender_answers.specs.Answers.{said, Outcome, Answered}
+use Rattle.sender_answers.specs.declared.Answer.{Answer}
 use Rattle.send.specs.Preemptable.{Step, Sent}
 use Rattle.send.specs.declared.Sending.{Sending}
-use Rattle.words.specs.Words.{word, isFlag, isCount}
-use Rattle.sender_words.specs.Sender.{numberOf, writtenOf, senderWords, senderFits}
+use Rattle.sender_words.specs.Sender.{numberOf, writtenOf, senderWords}
 use Rattle.seatport.specs.Sending.{Wrote, told}
 use Rattle.seatport.specs.Sending as S
-use Rattle.rules.proofs.Tests.{both}
 
 pub wrote-words : {o : Outcome} {out out′ written : List ℕ} {a : Answer} {number : ℕ} → Answered o out a out′
     → number ≡ numberOf (said a) → written ≡ writtenOf (said a) → Wrote o out number written out′

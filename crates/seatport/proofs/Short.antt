@@ -15,7 +15,8 @@ use Rattle.cut.specs.declared.Ask.{Ask}
 use Rattle.cut.specs.declared.Part.{Part}
 use Rattle.cut.specs.declared.Part.the-variants.{Whole, Cut}
 use Rattle.mframe.specs.Octets.{mFrameOf}
-use Rattle.mframe.specs.Sending.{refuse, write, short, outside, expressOf, zeros, orderOf}
+use Rattle.sender_answers.specs.Answers.{refuse, write, short, outside}
+use Rattle.single.specs.Single.{expressOf, zeros, orderOf}
 use Rattle.mframe.specs.declared.Kind.{Kind}
 use Rattle.mframe.specs.declared.Kind.the-variants.{Express}
 use Rattle.mframe.proofs.Laws.{mframe-length}

@@ -1,18 +1,14 @@
 -- The promise of the verification event, told in words.
 -- Assumes nothing.
 use mathlib.Core.Path.{_≡_, ap, _∙_}
-use mathlib.Core.Bool.{true}
 use mathlib.Core.List.{List}
-use Prim.Native.Nat.{ℕ, _≤_}
-use borrow.Author.Tests.{leb-true}
-use lib.Dec.{leb}
+use Prim.Native.Nat.{ℕ}
 use Rattle.verify.specs.Verify.{Told, said, told}
 use Rattle.verify.specs.declared.Stepped.{Stepped}
-use Rattle.words.specs.Words.{flag, word, isCount}
-use Rattle.link_words.specs.Link.{linkWords, linkFits}
+use Rattle.words.specs.Words.{flag}
+use Rattle.verify_words.specs.Link.{linkWords}
 use Rattle.seatport.specs.Verifying.{Taken}
 use Rattle.seatport.specs.Verifying as S
-use Rattle.rules.proofs.Tests.{both}
 
 pub taken-words : {t : Told} (s : Stepped) {number ordered : ℕ} {link : List ℕ} → told s ≡ t
     → number ≡ said (s .answer) .number → ordered ≡ flag (said (s .answer) .ordered) → link ≡ linkWords (s .after) → Taken (S.told t) number ordered link

@@ -7,7 +7,7 @@ use Prim.Native.Nat.{ℕ}
 use lib.Dec.{eqb, ltb}
 use lib.ListN.{length}
 use Rattle.heads.specs.Head.{Reading, known, refused, headOf}
-use Rattle.records.specs.Records.{fresh}
+use Rattle.receiver_record.specs.Records.{fresh}
 use Rattle.assembly.specs.Steps.{Step}
 use Rattle.receive.specs.Receive.{receivedOf, bufferOf, bodyOf}
 use Rattle.receiver_words.specs.Receiver.{receiverWords, receiverFits, receiverOf}

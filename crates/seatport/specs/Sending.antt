@@ -5,7 +5,7 @@ use mathlib.Core.Bool.{cond}
 use mathlib.Core.List.{List, [], _∷_}
 use Prim.Native.Nat.{ℕ}
 use Rattle.octets.specs.Laid.{over}
-use Rattle.mframe.specs.Sending.{Outcome, short}
+use Rattle.sender_answers.specs.Answers.{Outcome, short}
 use Rattle.send.specs.Preemptable.{Step, preemptableOf}
 use Rattle.sender_words.specs.Sender.{numberOf, writtenOf, senderWords, senderFits, senderOf, askOf}
 

@@ -6,7 +6,7 @@ use mathlib.Core.List.{List}
 use Prim.Native.Nat.{ℕ}
 use Rattle.verify.specs.Verify.{Told, stepOf}
 use Rattle.words.specs.Words.{flag}
-use Rattle.link_words.specs.Link.{eventOf, linkWords, linkFits, linkOf}
+use Rattle.verify_words.specs.Link.{eventOf, linkWords, linkFits, linkOf}
 
 -- what comes of an event
 pub record Verifying : Type 0 where

@@ -2,7 +2,7 @@
 use mframe::OUTPUT_LEAST;
 ghost use Prim.Native.Nat.{_<_};
 ghost use lib.ListN.{length};
-ghost use Rattle.mframe.specs.Sending.{expressOf, orderOf};
+ghost use Rattle.single.specs.Single.{expressOf, orderOf};
 ghost use Rattle.mframe.specs.declared.Kind.the-variants as Kinds;
 ghost use Rattle.seatport.specs.Sending.{Wrote, sendingOf, Sent};
 
@@ -10,7 +10,7 @@ ghost use Rattle.seatport.specs.Sending.{Wrote, sendingOf, Sent};
 pub extern "C" fn seatport_express(body: &[u8], out: &mut [u8], written: &mut [u32; 2]) -> u32
     ensures { λ r. ⌜ Wrote (expressOf (now (body .entry)) (length (now (out .entry)))) (now (out .entry)) r (now (written .exit)) (now (out .exit)) ⌝ }
 {
-    let answer = mframe::express(body, out);
+    let answer = single::express(body, out);
     *written = sender_words::written_of(answer);
     sender_words::number_of(answer)
 }
@@ -19,7 +19,7 @@ pub extern "C" fn seatport_express(body: &[u8], out: &mut [u8], written: &mut [u
 pub extern "C" fn seatport_verify(out: &mut [u8], written: &mut [u32; 2]) -> u32
     ensures { λ r. ⌜ Wrote (orderOf Kinds.Verify (length (now (out .entry)))) (now (out .entry)) r (now (written .exit)) (now (out .exit)) ⌝ }
 {
-    let answer = mframe::verify(out);
+    let answer = single::verify(out);
     *written = sender_words::written_of(answer);
     sender_words::number_of(answer)
 }
@@ -28,7 +28,7 @@ pub extern "C" fn seatport_verify(out: &mut [u8], written: &mut [u32; 2]) -> u32
 pub extern "C" fn seatport_respond(out: &mut [u8], written: &mut [u32; 2]) -> u32
     ensures { λ r. ⌜ Wrote (orderOf Kinds.Respond (length (now (out .entry)))) (now (out .entry)) r (now (written .exit)) (now (out .exit)) ⌝ }
 {
-    let answer = mframe::respond(out);
+    let answer = single::respond(out);
     *written = sender_words::written_of(answer);
     sender_words::number_of(answer)
 }

@@ -6,13 +6,13 @@ pub extern "C" fn seatport_step(link: &mut [u32; 4], event: u32, ordered: &mut u
     ensures { λ r. ⌜ Taken (verifyingOf (now (link .entry)) event) r (now (ordered .exit)) (now (link .exit)) ⌝ }
 {
     let words = *link;
-    if link_words::link_fits(words, event) {
-        let stepped = verify::step(link_words::link_of(words), link_words::event_of(event));
+    if verify_words::link_fits(words, event) {
+        let stepped = verify::step(verify_words::link_of(words), verify_words::event_of(event));
         let answer = stepped.answer;
         let after = stepped.after;
-        *link = link_words::link_words(after);
-        *ordered = link_words::ordered_of(answer);
-        return link_words::number_of(answer);
+        *link = verify_words::link_words(after);
+        *ordered = verify_words::ordered_of(answer);
+        return verify_words::number_of(answer);
     }
     *ordered = 0;
     40

@@ -19,7 +19,7 @@ use Rattle.cut.specs.declared.Ask.{Ask}
 use Rattle.cut.specs.declared.Part.{Part}
 use Rattle.cut.specs.declared.Part.the-variants.{Whole, Cut}
 use Rattle.cut.proofs.Laws.{cut-room}
-use Rattle.mframe.specs.Sending.{short, outside}
+use Rattle.sender_answers.specs.Answers.{short, outside}
 use Rattle.send.specs.Record.{idle, going, inRange, differs, held}
 use Rattle.send.specs.Preemptable.{firstOf, refusalOf, partNow, endOf, isDone, frameAfter, fragmentAfter, recordAfter, sentOf, unless, preemptableOf}
 use Rattle.send.specs.declared.Record.{Record}

@@ -4,7 +4,7 @@ use mathlib.Core.Path.{_≡_, sym, _∙_}
 use mathlib.Core.Bool.{Bool}
 use mathlib.Core.List.{List}
 use Prim.Native.Nat.{ℕ}
-use Rattle.mframe.proofs.Answers.{said-one}
+use Rattle.sender_answers.proofs.Once.{said-one}
 use Rattle.send.specs.Record.{freshOf}
 use Rattle.send.specs.Preemptable.{Step, Sent}
 use Rattle.send.specs.declared.Record.{Record}

@@ -16,7 +16,7 @@ use Rattle.cut.specs.declared.Ask.{Ask}
 use Rattle.cut.specs.declared.Part.{Part}
 use Rattle.cut.specs.declared.Part.the-variants.{Whole, Cut}
 use Rattle.mframe.specs.Octets.{mFrameOf}
-use Rattle.mframe.specs.Sending.{Said, wrote, refused, number, said, short, outside}
+use Rattle.sender_answers.specs.Answers.{Said, wrote, refused, number, said, short, outside}
 use Rattle.mframe.specs.declared.Kind.{Kind}
 use Rattle.mframe.specs.declared.Kind.the-variants.{Express, Start, Continuation}
 use Rattle.send.specs.Record.{inRange, differs, held}

@@ -8,7 +8,7 @@ use Rattle.codes.specs.Codes.{fragment, nextFragment}
 use Rattle.codes.specs.declared.FrameCount.{FrameCount}
 use Rattle.codes.specs.declared.FragmentCount.{FragmentCount}
 use Rattle.cut.specs.declared.Ask.{Ask}
-use Rattle.mframe.specs.Sending.{Said, wrote, refused}
+use Rattle.sender_answers.specs.Answers.{Said, wrote, refused}
 use Rattle.mframe.specs.declared.Kind.{Kind}
 use Rattle.mframe.specs.declared.Kind.the-variants.{Start, Continuation}
 use Rattle.send.specs.Preemptable.{preemptableOf}

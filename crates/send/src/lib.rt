@@ -5,7 +5,7 @@ use crate::part::Ruling;
 use codes::FragmentCount;
 use codes::FrameCount;
 use cut::Ask;
-use mframe::Answer;
+use sender_answers::Answer;
 ghost use mathlib.Core.Path.{_≡_};
 ghost use lib.ListN.{length};
 ghost use Rattle.send.specs.Record.{freshOf};

@@ -7,7 +7,7 @@ use lib.Dec.{eqb}
 use Rattle.codes.specs.Codes.{frame, fragment}
 use Rattle.cut.specs.declared.Ask.{Ask}
 use Rattle.cut.specs.declared.Ask.the-variants.{None, At}
-use Rattle.mframe.specs.Sending.{Said, wrote, refused}
+use Rattle.sender_answers.specs.Answers.{Said, wrote, refused}
 use Rattle.send.specs.declared.Record.{Record}
 use Rattle.words.specs.Words.{flag, word, isFlag, flagAt, isCount}
 

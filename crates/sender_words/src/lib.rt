@@ -2,12 +2,12 @@
 use codes::FragmentCount;
 use codes::FrameCount;
 use cut::Ask;
-use mframe::Answer;
 use send::Record;
+use sender_answers::Answer;
 ghost use mathlib.Core.Path.{_≡_};
 ghost use mathlib.Core.Bool.{true};
 ghost use Prim.Native.Nat.{_<_, _^_};
-ghost use Rattle.mframe.specs.Sending.{said};
+ghost use Rattle.sender_answers.specs.Answers.{said};
 ghost use Rattle.sender_words.specs.Sender.{numberOf, writtenOf, Short, senderWords, senderFits, senderOf, askOf};
 
 // Stands for no ask.

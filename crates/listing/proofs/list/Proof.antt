@@ -2,7 +2,7 @@
 -- Assumes nothing.
 use mathlib.Core.Path.{ap, _∙_}
 use borrow.Author.Needs.{needs}
-use Rattle.answers.specs.Answers.{Said}
+use Rattle.receiver_answers.specs.Answers.{Said}
 use Rattle.assembly.specs.Steps.{Step}
 use Rattle.listing.proofs.Laws.{line-as}
 use Rattle.listing.proofs.list.Statement.{statement}

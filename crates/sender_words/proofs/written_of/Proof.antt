@@ -1,7 +1,7 @@
 -- `sender_words::written_of` meets its contract.
 -- Assumes nothing.
 use mathlib.Core.Path.{subst}
-use Rattle.mframe.specs.Sending.{said}
+use Rattle.sender_answers.specs.Answers.{said}
 use Rattle.sender_words.specs.Sender.{Short}
 use borrow.Author.Needs.{needs}
 use Rattle.sender_words.proofs.written_of.Statement.{statement}

@@ -2,7 +2,7 @@
 -- Assumes nothing.
 use mathlib.Core.Path.{refl, sym, _∙_}
 use Rattle.seatport.specs.Verifying.{verifyingOf}
-use Rattle.link_words.proofs.Laws.{counts-known}
+use Rattle.verify_words.proofs.Laws.{counts-known}
 use Rattle.seatport.proofs.Stepped.{taken-words}
 use borrow.Author.Needs.{needs}
 use Rattle.seatport.proofs.verifying.seatport_step.Statement.{statement}

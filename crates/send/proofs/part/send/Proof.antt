@@ -9,7 +9,7 @@ use lib.ListN.{length, take, drop}
 use Rattle.octets.specs.Laid.{over}
 use Rattle.crc.specs.Crc.{allOnes, registerOver}
 use Rattle.mframe.specs.Octets.{mFrameOf}
-use Rattle.mframe.specs.Sending.{wrote}
+use Rattle.sender_answers.specs.Answers.{wrote}
 use Rattle.mframe.specs.declared.Kind.{Kind}
 use Rattle.send.specs.Preemptable.{checkOf, sentOf}
 use Rattle.send.proofs.part.send.Statement.{statement}

@@ -1,0 +1,129 @@
+// Runs the stored questions on link verification. tests/reference/README.md has the format of both files; the answers expected come from
+// the reference alone.
+use test_questions::read;
+use test_questions::say;
+use test_questions::went::Next;
+use test_questions::went::Went;
+use verify::Answer;
+use verify::Event;
+use verify::Phase;
+use verify::Record;
+
+// What is kept from question to question: the record, and how the last one went.
+struct Kept {
+    record: Record,
+    went: Went,
+}
+
+fn phase_of(x: u8) -> Phase {
+    match x {
+        0 => Phase::Off,
+        1 => Phase::Trying,
+        2 => Phase::Verified,
+        _ => Phase::Failed,
+    }
+}
+
+fn number_of(phase: Phase) -> u8 {
+    match phase {
+        Phase::Off => 0,
+        Phase::Trying => 1,
+        Phase::Verified => 2,
+        Phase::Failed => 3,
+    }
+}
+
+fn event_of(x: u8) -> Event {
+    match x {
+        0 => Event::Enable,
+        1 => Event::Disable,
+        2 => Event::LinkFailed,
+        3 => Event::ResponseHeard,
+        4 => Event::VerifyHeard,
+        5 => Event::ResponseSent,
+        _ => Event::Millisecond,
+    }
+}
+
+fn say_answer(answer: Answer) {
+    match answer {
+        Answer::Taken(ordered) => {
+            if ordered {
+                say::text(b"1");
+            } else {
+                say::text(b"0");
+            }
+        }
+        Answer::Refused => say::text(b"refused 40"),
+    }
+}
+
+fn say_record(r: Record) {
+    let phase = r.phase;
+    say::small(number_of(phase));
+    say::small(r.attempt);
+    say::small(r.left);
+    say::flag(r.owed);
+}
+
+fn after(kept: Kept, went: Went) -> Kept {
+    Kept { went, ..kept }
+}
+
+fn record(kept: Kept) -> Kept {
+    let mut x = [0u8; 4];
+    if !read::all(&mut x) || 3 < x[0] {
+        return after(kept, Went::Broken);
+    }
+    Kept {
+        record: Record {
+            phase: phase_of(x[0]),
+            attempt: x[1],
+            left: x[2],
+            owed: x[3] != 0,
+        },
+        went: Went::On,
+    }
+}
+
+fn event(kept: Kept) -> Kept {
+    let mut x = [0u8; 1];
+    if !read::all(&mut x) || 6 < x[0] {
+        return after(kept, Went::Broken);
+    }
+    let r = kept.record;
+    let stepped = verify::step(r, event_of(x[0]));
+    let answer = stepped.answer;
+    let record = stepped.after;
+    say_answer(answer);
+    say_record(record);
+    Kept {
+        record,
+        went: Went::answered(say::line_end()),
+    }
+}
+
+fn question(kind: u8, kept: Kept) -> Kept {
+    match kind {
+        1 => record(kept),
+        2 => event(kept),
+        _ => after(kept, Went::Broken),
+    }
+}
+
+// A proved loop has to end, and nothing says that the input does: it counts its turns down from more than any input has.
+fn main() {
+    let mut kept = Kept {
+        record: Record::fresh(),
+        went: Went::start(),
+    };
+    let mut turns = u32::MAX;
+    while turns > 0 {
+        let went = kept.went;
+        let Next::Question(kind) = went.next(b"test_verify") else {
+            return;
+        };
+        kept = question(kind, kept);
+        turns -= 1;
+    }
+}

@@ -1,0 +1,110 @@
+// The verification record, its events and what it answers, as words of 32 bits.
+use verify::Answer;
+use verify::Event;
+use verify::Phase;
+use verify::Record;
+ghost use mathlib.Core.Path.{_≡_};
+ghost use Prim.Native.Nat.{_≤_};
+ghost use lib.ListN.{getD};
+ghost use Rattle.verify.specs.Verify.{said};
+ghost use Rattle.words.specs.Words.{flag};
+ghost use Rattle.verify_words.specs.Link.{phaseNumber, phaseOf, eventOf, linkWords, linkFits, linkOf};
+
+pub fn phase_number(phase: Phase) -> u32
+    ensures { λ r. ⌜ r ≡ phaseNumber phase ⌝ }
+{
+    match phase {
+        Phase::Off => 0,
+        Phase::Trying => 1,
+        Phase::Verified => 2,
+        Phase::Failed => 3,
+    }
+}
+
+pub fn phase_of(n: u32) -> Phase
+    ensures { λ r. ⌜ r ≡ phaseOf n ⌝ }
+{
+    match n {
+        0 => Phase::Off,
+        1 => Phase::Trying,
+        2 => Phase::Verified,
+        _ => Phase::Failed,
+    }
+}
+
+pub fn event_of(n: u32) -> Event
+    ensures { λ r. ⌜ r ≡ eventOf n ⌝ }
+{
+    match n {
+        0 => Event::Enable,
+        1 => Event::Disable,
+        2 => Event::LinkFailed,
+        3 => Event::ResponseHeard,
+        4 => Event::VerifyHeard,
+        5 => Event::ResponseSent,
+        _ => Event::Millisecond,
+    }
+}
+
+// Whether four words are a verification record's, and a number an event's.
+pub fn link_fits(words: [u32; 4], event: u32) -> bool
+    ensures { λ r. ⌜ r ≡ linkFits words event ⌝ }
+{
+    if 3 < words[0] {
+        return false;
+    }
+    if 255 < words[1] {
+        return false;
+    }
+    if 255 < words[2] {
+        return false;
+    }
+    if 1 < words[3] {
+        return false;
+    }
+    event <= 6
+}
+
+// The record that they then are.
+pub fn link_of(words: [u32; 4]) -> Record
+    requires { ⌜ (getD words 1 0 ≤ 255) × (getD words 2 0 ≤ 255) ⌝ }
+    ensures { λ r. ⌜ r ≡ linkOf words ⌝ }
+{
+    let phase = phase_of(words[0]);
+    Record {
+        phase,
+        attempt: words[1] as u8,
+        left: words[2] as u8,
+        owed: words[3] == 1,
+    }
+}
+
+pub fn link_words(record: Record) -> [u32; 4]
+    ensures { λ r. ⌜ r ≡ linkWords «record» ⌝ }
+{
+    let phase = record.phase;
+    [
+        phase_number(phase),
+        record.attempt as u32,
+        record.left as u32,
+        words::flag(record.owed),
+    ]
+}
+
+pub fn number_of(answer: Answer) -> u32
+    ensures { λ r. ⌜ r ≡ said answer .number ⌝ }
+{
+    match answer {
+        Answer::Taken(_) => 0,
+        Answer::Refused => 40,
+    }
+}
+
+pub fn ordered_of(answer: Answer) -> u32
+    ensures { λ r. ⌜ r ≡ flag (said answer .ordered) ⌝ }
+{
+    match answer {
+        Answer::Taken(ordered) => words::flag(ordered),
+        Answer::Refused => 0,
+    }
+}
