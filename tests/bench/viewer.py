@@ -1,7 +1,7 @@
 #!/usr/bin/env python3
 """viewer.py FOLDER: mmlist and tshark list the same 100,000 mFrames; the processor time of each, from one run, and their ratio.
 
-The records are those of tests/traces/list_long, five times. mmlist reads them as a house trace, tshark as a pcap file of link
+The records are those of tests/traces/long.trace, five times. mmlist reads them as a house trace, tshark as a pcap file of link
 type 274 (IEEE 802.3br mPackets).
 """
 
@@ -41,7 +41,7 @@ def lines(path):
 
 def main():
     made = Path(sys.argv[1]).resolve()
-    once = (ROOT / "tests" / "traces" / "list_long" / "stdin").read_bytes()
+    once = (ROOT / "tests" / "traces" / "long.trace").read_bytes()
     records = list(mframes(once)) * TIMES
     (made / "trace").write_bytes(once * TIMES)
     with open(made / "mframes.pcap", "wb") as capture:

@@ -1,8 +1,8 @@
-"""mmlist as a program: however the trace comes.
+"""mmlist as a program: every stored trace, however it comes.
 
-The program must be built (rt check mmlist). What it lists for the trace of its crate is held to the
-reference by rt, for the traces of tests/traces here; it is fed by pipes in pieces, and with more than memory would hold.
-test_failures.py has inputs and outputs that fail.
+The program must be built (rt check mmlist). rt itself holds to the reference what mmlist lists for the sample, and test_example
+for document 01's own example; here mmlist lists the traces of tests/traces, is fed by pipes in pieces, and with more than memory
+would hold. test_failures.py has inputs and outputs that fail.
 """
 
 import os
@@ -13,15 +13,18 @@ from pathlib import Path
 
 ROOT = Path(__file__).resolve().parents[2]
 COMMAND = [str(ROOT / "scripts" / "run-program"), "mmlist"]
-
-
 TRACES = ROOT / "tests" / "traces"
+SAMPLE = ROOT / "crates" / "mmlist"
+
+
+def sample():
+    """The sample that ships with the project, and its listing."""
+    return (SAMPLE / "stdin").read_bytes(), (SAMPLE / "stdout").read_bytes()
 
 
 def stored(name):
-    """The trace and the listing stored under a name."""
-    folder = ROOT / "crates" / name if name == "mmlist" else TRACES / name
-    return (folder / "stdin").read_bytes(), (folder / "stdout").read_bytes()
+    """A trace of tests/traces, and its listing."""
+    return (TRACES / f"{name}.trace").read_bytes(), (TRACES / f"{name}.listing").read_bytes()
 
 
 def fed(pieces):
@@ -43,8 +46,8 @@ def fed(pieces):
 
 class Stored(unittest.TestCase):
     def test_each_trace_is_listed_as_the_reference_lists_it(self):
-        names = sorted(folder.name for folder in TRACES.iterdir())
-        self.assertEqual(len(names), 8)
+        names = sorted(path.stem for path in TRACES.glob("*.trace"))
+        self.assertEqual(names, ["answers", "empty", "long", "refused_50", "refused_51", "refused_52", "refused_53"])
         for name in names:
             with self.subTest(name=name):
                 trace, listing = stored(name)
@@ -53,11 +56,11 @@ class Stored(unittest.TestCase):
 
 class Pieces(unittest.TestCase):
     def test_single_octets(self):
-        trace, listing = stored("mmlist")
+        trace, listing = sample()
         self.assertEqual(fed(trace[place:place + 1] for place in range(len(trace)))[0], listing)
 
     def test_pieces_that_cut_headers_and_contents(self):
-        trace, listing = stored("list_answers")
+        trace, listing = stored("answers")
         for size in (3, 5, 1603, 1605, 65_535, 65_537):
             with self.subTest(size=size):
                 pieces = [trace[place:place + size] for place in range(0, len(trace), size)]
@@ -66,7 +69,7 @@ class Pieces(unittest.TestCase):
 
 class Length(unittest.TestCase):
     def test_memory_does_not_grow_with_the_trace(self):
-        trace, _ = stored("list_long")
+        trace, _ = stored("long")
         records = 20_000
         _, small = fed([trace])
         listing, large = fed(trace for _ in range(70))

@@ -19,7 +19,7 @@ SEED = 8031
 LONG_TRACE_RECORDS = 20_000
 
 
-def sample():
+def example():
     """The four records that document 01 prints, octet by octet."""
     short = bytes.fromhex("03 00 01 00 55 55 55")
     headers = (bytes([0x55] * 7 + [0xAD]), bytes([0x55] * 6 + [0x61, 0xE6]), bytes([0x55] * 7 + [0xD5]))
@@ -177,28 +177,39 @@ def all_traces():
     good, behind = before_a_refused_record(), behind_a_refused_record()
     whole = mframe.verify()
     return {
-        "list_sample": sample(),
-        "mmlist": row(),
-        "list_answers": answers(),
-        "list_long": long(),
+        "example": example(),
+        "row": row(),
+        "answers": answers(),
+        "long": long(),
         # Three octets of a header, as they could begin a good record.
-        "list_50": good + trace.HEADER.pack(72, 1)[:3],
+        "refused_50": good + trace.HEADER.pack(72, 1)[:3],
         # One octet too long, all there, and of another kind as well: 51 comes first.
-        "list_51": good + trace.HEADER.pack(1601, 2) + bytes(1601) + behind,
+        "refused_51": good + trace.HEADER.pack(1601, 2) + bytes(1601) + behind,
         # 257 has a 1 in its lower octet. The content is cut as well: 52 comes first.
-        "list_52": good + trace.HEADER.pack(72, 257) + whole[:50],
+        "refused_52": good + trace.HEADER.pack(72, 257) + whole[:50],
         # All of a V but its last octet.
-        "list_53": good + trace.HEADER.pack(72, 1) + whole[:-1],
-        "list_empty": b"",
+        "refused_53": good + trace.HEADER.pack(72, 1) + whole[:-1],
+        "empty": b"",
     }
+
+
+# The programs that have a trace of their own: document 01's example, and the sample that `make list` lists.
+PROGRAMS = {"example": "test_example", "row": "mmlist"}
+
+
+def places(name):
+    """Where a trace and its listing are stored: with the program that has it as its own, else in tests/traces."""
+    if name in PROGRAMS:
+        return f"crates/{PROGRAMS[name]}/stdin", f"crates/{PROGRAMS[name]}/stdout"
+    return f"tests/traces/{name}.trace", f"tests/traces/{name}.listing"
 
 
 def files():
     made = []
     for name, octets in all_traces().items():
-        folder = f"crates/{name}" if name == "mmlist" else f"tests/traces/{name}"
-        made.append(stored.StoredFile(f"{folder}/stdin", octets, is_text=False))
-        made.append(stored.StoredFile(f"{folder}/stdout", mmlist.listing(octets).encode("ascii"), is_text=True))
+        of_trace, of_listing = places(name)
+        made.append(stored.StoredFile(of_trace, octets, is_text=False))
+        made.append(stored.StoredFile(of_listing, mmlist.listing(octets).encode("ascii"), is_text=True))
     return made
 
 
