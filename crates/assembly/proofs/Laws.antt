@@ -1,4 +1,4 @@
--- Laws of the steps, for the proofs of this crate and of those above.
+-- A law of the steps: an open assembly is one at most.
 -- Assumes nothing.
 use mathlib.Core.Bool.{Bool, true, false}
 use Prim.Native.Nat.{_≤_}

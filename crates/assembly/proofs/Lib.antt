@@ -1,3 +1,2 @@
-pub mod Continuing
 pub mod Laws
 pub mod Once

@@ -22,7 +22,9 @@ use Rattle.receiver_record.specs.declared.Counters.{Counters}
 use Rattle.receiver_record.specs.declared.Record.{Record}
 use Rattle.receiver_answers.specs.Answers.{Said, says}
 use Rattle.receiver_record.specs.Records.{strayed, shut, opened, counting}
-use Rattle.assembly.specs.Steps.{Step, delimiterError, unchanged, abandoned, expressOf, heardOf, startOf, endedOf, unexpected, totalOf, continuationOf, stepOf}
+use Rattle.outcomes.specs.Outcomes.{Step, delimiterError, unchanged, abandoned}
+use Rattle.continuing.specs.Continuing.{endedOf, unexpected, totalOf, continuationOf}
+use Rattle.assembly.specs.Steps.{expressOf, heardOf, startOf, stepOf}
 use Rattle.receive.specs.Receive.{leftOf}
 use Rattle.crc.proofs.Endings.{Ends, ends}
 use Rattle.link.specs.Frames.{ifSo}

@@ -15,7 +15,7 @@ use Rattle.receiver_record.specs.declared.Counters.{Counters}
 use Rattle.receiver_record.specs.declared.Record.{Record}
 use Rattle.receiver_answers.specs.Answers.{Said, says}
 use Rattle.receiver_record.specs.Records.{fresh, counting, inRange}
-use Rattle.assembly.specs.Steps.{Step, unchanged}
+use Rattle.outcomes.specs.Outcomes.{Step, unchanged}
 use Rattle.receive.specs.Receive.{byHead, receivedOf, dataIn, bufferOf, bodyOf}
 use Rattle.heads.proofs.Heads.{Refusal, n12, n13, n14, n15, n16, n17, Good, head-good}
 use Rattle.crc.proofs.Endings.{ends}

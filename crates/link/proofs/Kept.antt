@@ -20,7 +20,9 @@ use Rattle.receiver_record.specs.declared.Counters.{Counters}
 use Rattle.receiver_record.specs.declared.Record.{Record}
 use Rattle.receiver_answers.specs.Answers.{Said, says}
 use Rattle.receiver_record.specs.Records.{shut, opened}
-use Rattle.assembly.specs.Steps.{Step, endedOf, continuationOf, stepOf}
+use Rattle.outcomes.specs.Outcomes.{Step}
+use Rattle.continuing.specs.Continuing.{endedOf, continuationOf}
+use Rattle.assembly.specs.Steps.{stepOf}
 use Rattle.receive.specs.Receive.{leftOf}
 use Rattle.link.specs.Frames.{ifSo}
 use Rattle.link.proofs.Counts.{apart}

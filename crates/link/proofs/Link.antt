@@ -18,7 +18,8 @@ use Rattle.send.proofs.Whole.{check-length}
 use Rattle.receiver_record.specs.declared.Record.{Record}
 use Rattle.receiver_answers.specs.Answers.{says}
 use Rattle.receiver_record.specs.Records.{inRange}
-use Rattle.assembly.specs.Steps.{Step, stepOf}
+use Rattle.outcomes.specs.Outcomes.{Step}
+use Rattle.assembly.specs.Steps.{stepOf}
 use Rattle.receive.specs.Receive.{receivedOf, leftOf, bufferOf, bodyOf}
 use Rattle.link.specs.Sender.{Fate, arrives, lost, MFrame, express, part, order}
 use Rattle.link.specs.Frames.{fates, arrivals, expressExpected, framesSent, noneLost, ifSo, unharmed}

@@ -23,7 +23,9 @@ use Rattle.heads.specs.declared.Fault.the-variants.{Short, Long, Preamble, Deli
 use Rattle.receiver_record.specs.declared.Record.{Record}
 use Rattle.receiver_answers.specs.Answers.{Said, says}
 use Rattle.receiver_record.specs.Records.{fresh}
-use Rattle.assembly.specs.Steps.{Step, unchanged, abandoned, expressOf, heardOf, startOf, endedOf, unexpected, totalOf, continuationOf, stepOf}
+use Rattle.outcomes.specs.Outcomes.{Step, unchanged, abandoned}
+use Rattle.continuing.specs.Continuing.{endedOf, unexpected, totalOf, continuationOf}
+use Rattle.assembly.specs.Steps.{expressOf, heardOf, startOf, stepOf}
 use Rattle.receive.specs.Receive.{writes, isDone, expressDelivered}
 
 -- a head that is refused: its answer writes nothing, and is no delivery

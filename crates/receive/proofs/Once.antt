@@ -4,8 +4,8 @@ use mathlib.Core.Path.{_≡_, sym, _∙_}
 use mathlib.Core.List.{List}
 use Prim.Native.Nat.{ℕ}
 use Rattle.receiver_record.specs.declared.Record.{Record}
-use Rattle.receiver_answers.specs.declared.Received.{Received}
-use Rattle.assembly.proofs.Once.{told-one}
+use Rattle.outcomes.specs.declared.Received.{Received}
+use Rattle.outcomes.proofs.Once.{told-one}
 use Rattle.receive.specs.Receive.{Answered, bodyOf}
 
 -- receive: the answer, the record and each octet of the buffer

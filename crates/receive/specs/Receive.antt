@@ -15,10 +15,11 @@ use Rattle.heads.specs.Head.{Reading, known, refused, headOf}
 use Rattle.mframe.specs.declared.Kind.{Kind}
 use Rattle.mframe.specs.declared.Kind.the-variants as K
 use Rattle.receiver_record.specs.declared.Record.{Record}
-use Rattle.receiver_answers.specs.declared.Received.{Received}
+use Rattle.outcomes.specs.declared.Received.{Received}
 use Rattle.receiver_answers.specs.Answers.{Said, says}
 use Rattle.receiver_record.specs.Records.{fresh, inRange}
-use Rattle.assembly.specs.Steps.{Step, told, unchanged, stepOf}
+use Rattle.outcomes.specs.Outcomes.{Step, told, unchanged}
+use Rattle.assembly.specs.Steps.{stepOf}
 
 -- by what the head says: 12 to 17, or by kind, with the octets from where the data begin
 abbrev pub byHead : Reading → List ℕ → Record → Step

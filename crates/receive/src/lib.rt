@@ -4,7 +4,7 @@ use heads::Head;
 use mframe::BODY_MOST;
 use mframe::CHECK;
 use mframe::Kind;
-use receiver_answers::Received;
+use outcomes::Received;
 use receiver_answers::Refusal;
 use receiver_record::Record;
 ghost use mathlib.Core.Path.{_≡_};
@@ -51,14 +51,14 @@ pub fn receive(mframe: &[u8], record: Record, buffer: &mut [u8]) -> Received
     ensures { λ r. ⌜ Answered (now (mframe .entry)) «record» (now (buffer .entry)) r (now (buffer .exit)) ⌝ }
 {
     if buffer.len() < BODY_MOST {
-        return assembly::refuse(Refusal::Buffer, record);
+        return outcomes::refuse(Refusal::Buffer, record);
     }
     if !record.in_range() {
-        return assembly::refuse(Refusal::Record, record);
+        return outcomes::refuse(Refusal::Record, record);
     }
     match heads::head_of(mframe) {
         Head::Known(kind, place) => take(kind, &mframe[place..], record, buffer),
-        Head::Refused(fault) => assembly::refuse(Refusal::Head(fault), record),
+        Head::Refused(fault) => outcomes::refuse(Refusal::Head(fault), record),
     }
 }
 

@@ -27,7 +27,9 @@ use Rattle.receiver_record.specs.declared.Counters.{Counters}
 use Rattle.receiver_record.specs.declared.Record.{Record}
 use Rattle.receiver_answers.specs.Answers.{Said, says}
 use Rattle.receiver_record.specs.Records.{strayed, shut, opened, counting, inRange}
-use Rattle.assembly.specs.Steps.{Step, unchanged, abandoned, expressOf, heardOf, startOf, endedOf, unexpected, totalOf, continuationOf, stepOf}
+use Rattle.outcomes.specs.Outcomes.{Step, unchanged, abandoned}
+use Rattle.continuing.specs.Continuing.{endedOf, unexpected, totalOf, continuationOf}
+use Rattle.assembly.specs.Steps.{expressOf, heardOf, startOf, stepOf}
 use Rattle.receive.specs.Receive.{byHead, receivedOf, upTo, leftOf, dataIn, bufferOf}
 use Rattle.heads.proofs.Heads.{Refusal, n12, n13, n14, n15, n16, n17, Good, head-good}
 use Rattle.crc.proofs.Endings.{Ends, ends}

@@ -11,7 +11,8 @@ use Rattle.heads.specs.Head.{Reading, known, refused, headOf}
 use Rattle.mframe.specs.declared.Kind.the-variants.{Express, Start, Continuation, Verify, Respond}
 use Rattle.receiver_record.specs.declared.Record.{Record}
 use Rattle.receiver_record.specs.Records.{inRange}
-use Rattle.assembly.specs.Steps.{Step, delimiterError, one}
+use Rattle.outcomes.specs.Outcomes.{Step, delimiterError}
+use Rattle.assembly.specs.Steps.{one}
 use Rattle.receive.specs.Receive.{receivedOf, bufferOf}
 
 -- the record and the buffer after the mFrames ms, from the record r and the buffer b

@@ -1,6 +1,5 @@
 // What the receiving side answers (document 01, "Receiving"): the numbered answers with what the paper says for each.
 use heads::Fault;
-use receiver_record::Record;
 ghost use mathlib.Core.Path.{_≡_};
 ghost use Rattle.receiver_answers.specs.Answers.{refusalNumber, refusalDetail, dropNumber, said};
 
@@ -30,12 +29,6 @@ pub enum Answer {
     RespondHeard,
     Refused(Refusal),
     Dropped(Drop),
-}
-
-// An answer and the record to keep.
-pub struct Received {
-    pub answer: Answer,
-    pub after: Record,
 }
 
 impl Refusal {

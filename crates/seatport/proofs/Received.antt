@@ -20,10 +20,12 @@ use Rattle.mframe.specs.declared.Kind.{Kind}
 use Rattle.mframe.specs.declared.Kind.the-variants as K
 use Rattle.heads.proofs.Heads.{Good, head-good, detail-small}
 use Rattle.receiver_record.specs.declared.Record.{Record}
-use Rattle.receiver_answers.specs.declared.Received.{Received}
+use Rattle.outcomes.specs.declared.Received.{Received}
 use Rattle.receiver_answers.specs.Answers.{says}
 use Rattle.receiver_record.specs.Records.{inRange, counting, strayed}
-use Rattle.assembly.specs.Steps.{Step, told, delimiterError, unchanged, abandoned, expressOf, heardOf, startOf, endedOf, unexpected, totalOf, continuationOf, stepOf}
+use Rattle.outcomes.specs.Outcomes.{Step, told, delimiterError, unchanged, abandoned}
+use Rattle.continuing.specs.Continuing.{endedOf, unexpected, totalOf, continuationOf}
+use Rattle.assembly.specs.Steps.{expressOf, heardOf, startOf, stepOf}
 use Rattle.receive.specs.Receive.{byHead, receivedOf, Answered}
 use Rattle.receiver_words.specs.Receiver.{receiverWords}
 use Rattle.seatport.specs.Receiving as S

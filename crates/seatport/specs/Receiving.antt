@@ -8,7 +8,7 @@ use lib.Dec.{eqb, ltb}
 use lib.ListN.{length}
 use Rattle.heads.specs.Head.{Reading, known, refused, headOf}
 use Rattle.receiver_record.specs.Records.{fresh}
-use Rattle.assembly.specs.Steps.{Step}
+use Rattle.outcomes.specs.Outcomes.{Step}
 use Rattle.receive.specs.Receive.{receivedOf, bufferOf, bodyOf}
 use Rattle.receiver_words.specs.Receiver.{receiverWords, receiverFits, receiverOf}
 

@@ -3,7 +3,7 @@
 use mathlib.Core.Path.{ap, _∙_}
 use borrow.Author.Needs.{needs}
 use Rattle.receiver_answers.specs.Answers.{Said}
-use Rattle.assembly.specs.Steps.{Step}
+use Rattle.outcomes.specs.Outcomes.{Step}
 use Rattle.listing.proofs.Laws.{line-as}
 use Rattle.listing.proofs.list.Statement.{statement}
 use Rattle.listing.proofs.list.Tie as tie

@@ -1,8 +1,8 @@
--- `assembly::abandoned` meets its contract.
+-- `outcomes::abandoned` meets its contract.
 -- Assumes nothing.
 use borrow.Author.Needs.{needs}
-use Rattle.assembly.proofs.abandoned.Statement.{statement}
-use Rattle.assembly.proofs.abandoned.Tie as tie
+use Rattle.outcomes.proofs.abandoned.Statement.{statement}
+use Rattle.outcomes.proofs.abandoned.Tie as tie
 
 erred-requires : tie.Need-erred-requires
 erred-requires c κs = search needs

@@ -12,15 +12,16 @@ use Rattle.codes.specs.declared.FragmentCount.{FragmentCount}
 use Rattle.crc.specs.Judge.{endingOf}
 use Rattle.crc.specs.declared.Ending.{Ending}
 use Rattle.receiver_record.specs.declared.Record.{Record}
-use Rattle.assembly.specs.declared.Assembly.{Assembly}
-use Rattle.assembly.specs.declared.Assembly.the-variants.{Open, Closed}
-use Rattle.assembly.specs.declared.Counts.{Counts}
-use Rattle.assembly.specs.declared.Counts.the-variants.{Expected, Other}
-use Rattle.assembly.specs.declared.Room.{Room}
-use Rattle.assembly.specs.declared.Room.the-variants.{Enough, Over}
+use Rattle.continuing.specs.declared.Assembly.{Assembly}
+use Rattle.continuing.specs.declared.Assembly.the-variants.{Open, Closed}
+use Rattle.continuing.specs.declared.Counts.{Counts}
+use Rattle.continuing.specs.declared.Counts.the-variants.{Expected, Other}
+use Rattle.continuing.specs.declared.Room.{Room}
+use Rattle.continuing.specs.declared.Room.the-variants.{Enough, Over}
 use Rattle.receiver_answers.specs.Answers.{says}
-use Rattle.assembly.specs.Steps.{unchanged, abandoned, endedOf, unexpected, totalOf, continuationOf}
-use Rattle.assembly.specs.Tests.{Opened, Assembled, other, Fits}
+use Rattle.outcomes.specs.Outcomes.{unchanged, abandoned}
+use Rattle.continuing.specs.Continuing.{endedOf, unexpected, totalOf, continuationOf}
+use Rattle.continuing.specs.Tests.{Opened, Assembled, other, Fits}
 
 module _ (f : FrameCount) (g : FragmentCount) (octets : List ℕ) (r : Record) where
   pub closed : {a : Assembly} → Assembled r a → a ≡ Closed → unchanged (says 22 0) r ≡ continuationOf f g octets r

@@ -1,10 +1,10 @@
--- `assembly::continuation` meets its contract.
+-- `continuing::continuation` meets its contract.
 -- Assumes nothing.
-use Rattle.assembly.proofs.Continuing.{closed, miscounted, too-long, passed}
+use Rattle.continuing.proofs.Continuing.{closed, miscounted, too-long, passed}
 use mathlib.Core.Path.{_∙_}
 use borrow.Author.Needs.{needs}
-use Rattle.assembly.proofs.continuation.Statement.{statement}
-use Rattle.assembly.proofs.continuation.Tie as tie
+use Rattle.continuing.proofs.continuation.Statement.{statement}
+use Rattle.continuing.proofs.continuation.Tie as tie
 
 assembly-of-requires : tie.Need-assembly-of-requires
 assembly-of-requires c κs = search needs

@@ -1,8 +1,8 @@
--- `assembly::ended` meets its contract.
+-- `continuing::ended` meets its contract.
 -- Assumes nothing.
 use borrow.Author.Needs.{needs}
-use Rattle.assembly.proofs.ended.Statement.{statement}
-use Rattle.assembly.proofs.ended.Tie as tie
+use Rattle.continuing.proofs.ended.Statement.{statement}
+use Rattle.continuing.proofs.ended.Tie as tie
 
 enum-told : tie.Need-enum-told
 enum-told c = search needs

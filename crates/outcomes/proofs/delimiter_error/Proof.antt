@@ -1,8 +1,8 @@
--- `assembly::delimiter_error` meets its contract.
+-- `outcomes::delimiter_error` meets its contract.
 -- Assumes nothing.
 use borrow.Author.Tests.{ne-eqb}
-use Rattle.assembly.proofs.delimiter_error.Statement.{statement}
-use Rattle.assembly.proofs.delimiter_error.Tie as tie
+use Rattle.outcomes.proofs.delimiter_error.Statement.{statement}
+use Rattle.outcomes.proofs.delimiter_error.Tie as tie
 
 returns : tie.Need-returns
 returns c = simp (c .match .keys1)

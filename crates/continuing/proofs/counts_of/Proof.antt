@@ -1,8 +1,8 @@
--- `assembly::counts_of` meets its contract.
+-- `continuing::counts_of` meets its contract.
 -- Assumes nothing.
 use Rattle.rules.proofs.Tests.{tests}
-use Rattle.assembly.proofs.counts_of.Statement.{statement}
-use Rattle.assembly.proofs.counts_of.Tie as tie
+use Rattle.continuing.proofs.counts_of.Statement.{statement}
+use Rattle.continuing.proofs.counts_of.Tie as tie
 
 returns : tie.Need-returns
 returns c =

@@ -1,8 +1,8 @@
--- `assembly::unchanged` meets its contract.
+-- `outcomes::unchanged` meets its contract.
 -- Assumes nothing.
 use borrow.Author.Needs.{needs}
-use Rattle.assembly.proofs.unchanged.Statement.{statement}
-use Rattle.assembly.proofs.unchanged.Tie as tie
+use Rattle.outcomes.proofs.unchanged.Statement.{statement}
+use Rattle.outcomes.proofs.unchanged.Tie as tie
 
 number-requires : tie.Need-number-requires
 number-requires c κs = search needs

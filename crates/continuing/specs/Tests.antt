@@ -5,12 +5,12 @@ use Prim.Native.Nat.{ℕ, _≤_, _<_}
 use Rattle.codes.specs.declared.FrameCount.{FrameCount}
 use Rattle.codes.specs.declared.FragmentCount.{FragmentCount}
 use Rattle.receiver_record.specs.declared.Record.{Record}
-use Rattle.assembly.specs.declared.Assembly.{Assembly}
-use Rattle.assembly.specs.declared.Assembly.the-variants as A
-use Rattle.assembly.specs.declared.Counts.{Counts}
-use Rattle.assembly.specs.declared.Counts.the-variants as C
-use Rattle.assembly.specs.declared.Room.{Room}
-use Rattle.assembly.specs.declared.Room.the-variants as R
+use Rattle.continuing.specs.declared.Assembly.{Assembly}
+use Rattle.continuing.specs.declared.Assembly.the-variants as A
+use Rattle.continuing.specs.declared.Counts.{Counts}
+use Rattle.continuing.specs.declared.Counts.the-variants as C
+use Rattle.continuing.specs.declared.Room.{Room}
+use Rattle.continuing.specs.declared.Room.the-variants as R
 
 -- an assembly that is open, with what the record says of it
 pub record Opened (r : Record) (frame : FrameCount) (fragment : FragmentCount) (kept running : ℕ) : Type 0 where

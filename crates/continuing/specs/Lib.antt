@@ -1,0 +1,2 @@
+pub mod Continuing
+pub mod Tests

@@ -1,0 +1,29 @@
+-- An answer together with the record after it, in the paper's numbers (document 01, "Receiving" and "Counters"): one that leaves the assembly
+-- as it is, and one that abandons it. Assumes nothing.
+use mathlib.Core.Bool.{Bool, cond, _||_}
+use Prim.Native.Nat.{ℕ}
+use lib.Dec.{eqb}
+use Rattle.receiver_answers.specs.Answers.{Said, said}
+use Rattle.receiver_record.specs.declared.Record.{Record}
+use Rattle.receiver_record.specs.Records.{erred, strayed, shut, counting}
+use Rattle.outcomes.specs.declared.Received.{Received}
+
+-- an answer and the record after it, as the paper tells them
+pub record Step : Type 0 where
+  pub said : Said
+  pub after : Record
+
+abbrev pub told : Received → Step
+told r = record { said = said (r .answer); after = r .after }
+
+-- "delimiter errors: one for each 15, 16, 17, 22"
+abbrev pub delimiterError : ℕ → Bool
+delimiterError n = eqb n 15 || (eqb n 16 || (eqb n 17 || eqb n 22))
+
+-- an answer that leaves the assembly as it is: all but the delimiter counter stays
+abbrev pub unchanged : Said → Record → Step
+unchanged s r = record { said = s; after = cond (delimiterError (s .number)) (counting (strayed (r .counters)) r) r }
+
+-- "dropped, assembly abandoned": one assembly error
+abbrev pub abandoned : Said → Record → Step
+abandoned s r = record { said = s; after = shut (erred 1 (r .counters)) }
