@@ -2,7 +2,7 @@
 // lent to the crate above.
 use codes::FragmentCount;
 use codes::FrameCount;
-use crc::Ending;
+use endings::Ending;
 use mframe::BODY_MOST;
 use mframe::CHECK;
 use mframe::Kind;
@@ -225,7 +225,7 @@ fn continuation(f: FrameCount, g: FragmentCount, octets: &[u8], record: Record) 
     let Room::Enough(total) = room_for(kept, octets.len()) else {
         return abandoned(Drop::Over, record);
     };
-    ended(total, crc::judge(running, octets), record)
+    ended(total, endings::judge(running, octets), record)
 }
 
 // An mFrame by its kind, its data and check octets. No octet is summed twice, and none of a continuation that fails 22, 23 or 24.
@@ -233,17 +233,17 @@ pub fn decide(kind: Kind, octets: &[u8], record: Record) -> Received
     ensures { λ r. ⌜ told r ≡ stepOf kind (now (octets .entry)) «record» ⌝ }
 {
     match kind {
-        Kind::Express => express(crc::judge(crc::ALL_ONES, octets), record),
-        Kind::Start(frame) => start(frame, crc::judge(crc::ALL_ONES, octets), record),
+        Kind::Express => express(endings::judge(crc::ALL_ONES, octets), record),
+        Kind::Start(frame) => start(frame, endings::judge(crc::ALL_ONES, octets), record),
         Kind::Continuation(frame, fragment) => continuation(frame, fragment, octets, record),
         Kind::Verify => heard(
             Answer::VerifyHeard,
-            crc::judge(crc::ALL_ONES, octets),
+            endings::judge(crc::ALL_ONES, octets),
             record,
         ),
         Kind::Respond => heard(
             Answer::RespondHeard,
-            crc::judge(crc::ALL_ONES, octets),
+            endings::judge(crc::ALL_ONES, octets),
             record,
         ),
     }

@@ -7,7 +7,7 @@ use native.Mathlib.Omega.{arith}
 use lib.ListN.{length, length-append, length-replicate}
 use Rattle.crc.specs.Crc.{allOnes, registerOver, fcsOf, mcrcOf}
 use Rattle.crc.proofs.Laws.{fcs-length, mcrc-length}
-use Rattle.crc.proofs.Endings.{ending-done, ending-more}
+use Rattle.endings.proofs.Endings.{ending-done, ending-more}
 use Rattle.mframe.specs.Octets.{mFrameOf}
 use Rattle.single.specs.Single.{zeros}
 use Rattle.mframe.specs.declared.Kind.{Kind}

@@ -8,7 +8,7 @@ use borrow.Author.Tests.{le-ltb}
 use lib.Dec.{eqb}
 use lib.ListN.{length, drop, length-append}
 use lib.Seq.{drop-at}
-use Rattle.crc.proofs.Endings.{data-of}
+use Rattle.endings.proofs.Endings.{data-of}
 use Rattle.mframe.specs.Octets.{headerOf, mFrameOf}
 use Rattle.heads.specs.Head.{known, headOf}
 use Rattle.mframe.specs.declared.Kind.{Kind}

@@ -11,7 +11,7 @@ use lib.Dec.{eqb}
 use lib.ListN.{length, take, drop, length-drop}
 use lib.Seq.{length-take-le, take-all}
 use Rattle.octets.specs.Laid.{laid}
-use Rattle.crc.specs.Judge.{dataOf}
+use Rattle.endings.specs.Judge.{dataOf}
 use Rattle.heads.specs.Head.{Reading, known, faultNumber, faultDetail, reading, headOf}
 use Rattle.mframe.specs.declared.Kind.{Kind}
 use Rattle.heads.specs.declared.Fault.{Fault}

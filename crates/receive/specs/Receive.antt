@@ -8,9 +8,9 @@ use lib.Dec.{eqb, ltb}
 use lib.ListN.{length, drop}
 use Rattle.octets.specs.Laid.{laid}
 use Rattle.crc.specs.Crc.{allOnes}
-use Rattle.crc.specs.Judge.{dataOf, endingOf}
-use Rattle.crc.specs.declared.Ending.{Ending}
-use Rattle.crc.specs.declared.Ending.the-variants.{Done, More, Damaged}
+use Rattle.endings.specs.Judge.{dataOf, endingOf}
+use Rattle.endings.specs.declared.Ending.{Ending}
+use Rattle.endings.specs.declared.Ending.the-variants.{Done, More, Damaged}
 use Rattle.heads.specs.Head.{Reading, known, refused, headOf}
 use Rattle.mframe.specs.declared.Kind.{Kind}
 use Rattle.mframe.specs.declared.Kind.the-variants as K

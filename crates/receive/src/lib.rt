@@ -1,5 +1,5 @@
 // The receiving side (document 01, "Receiving"): one mFrame to an answer, the record to keep and the assembly buffer; and an express body.
-use crc::Ending;
+use endings::Ending;
 use heads::Head;
 use mframe::BODY_MOST;
 use mframe::CHECK;
@@ -10,7 +10,7 @@ use receiver_record::Record;
 ghost use mathlib.Core.Path.{_≡_};
 ghost use Prim.Native.Nat.{_+_, _≤_};
 ghost use lib.ListN.{length};
-ghost use Rattle.crc.specs.Judge.{dataOf};
+ghost use Rattle.endings.specs.Judge.{dataOf};
 ghost use Rattle.receive.specs.Receive.{writes, upTo, Taken, Answered, isDone, expressDelivered, bodyOf};
 
 // Whether an answer has the data written.
@@ -77,7 +77,7 @@ fn delivers_express(kind: Kind, octets: &[u8]) -> bool
     ensures { λ b. ⌜ b ≡ expressDelivered kind (now (octets .entry)) ⌝ }
 {
     match kind {
-        Kind::Express => is_done(crc::judge(crc::ALL_ONES, octets)),
+        Kind::Express => is_done(endings::judge(crc::ALL_ONES, octets)),
         Kind::Start(_) => false,
         Kind::Continuation(_, _) => false,
         Kind::Verify => false,

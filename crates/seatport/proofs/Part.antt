@@ -8,7 +8,7 @@ use native.Mathlib.Omega.{arith}
 use lib.Dec.{eqb}
 use lib.ListN.{length, drop, length-drop}
 use lib.Seq.{length-take-le}
-use Rattle.crc.specs.Judge.{dataOf}
+use Rattle.endings.specs.Judge.{dataOf}
 use Rattle.heads.specs.Head.{Reading, known, refused, headOf}
 use Rattle.heads.proofs.Heads.{Good, head-good, no-delivery}
 use Rattle.receiver_record.specs.Records.{fresh, inRange}
