@@ -16,7 +16,8 @@ use Rattle.receiver_record.specs.declared.Record.{Record}
 use Rattle.receiver_answers.specs.Answers.{Said, says}
 use Rattle.receiver_record.specs.Records.{fresh, counting, inRange}
 use Rattle.assembly.specs.Steps.{Step, unchanged}
-use Rattle.receive.specs.Receive.{byHead, receivedOf, dataIn, bufferOf, bodyOf}
+use Rattle.receive.specs.Receive.{byHead, receivedOf, dataIn, bufferOf}
+use Rattle.express_body.specs.Body.{bodyOf}
 use Rattle.heads.proofs.Heads.{Refusal, n12, n13, n14, n15, n16, n17, Good, head-good}
 use Rattle.endings.proofs.Endings.{ends}
 use Rattle.receive_histories.specs.History.{isStart, refusal}

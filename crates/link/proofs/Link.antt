@@ -19,7 +19,8 @@ use Rattle.receiver_record.specs.declared.Record.{Record}
 use Rattle.receiver_answers.specs.Answers.{says}
 use Rattle.receiver_record.specs.Records.{inRange}
 use Rattle.assembly.specs.Steps.{Step, stepOf}
-use Rattle.receive.specs.Receive.{receivedOf, leftOf, bufferOf, bodyOf}
+use Rattle.receive.specs.Receive.{receivedOf, leftOf, bufferOf}
+use Rattle.express_body.specs.Body.{bodyOf}
 use Rattle.link.specs.Sender.{Fate, arrives, lost, MFrame, express, part, order}
 use Rattle.link.specs.Frames.{fates, arrivals, expressExpected, framesSent, noneLost, ifSo, unharmed}
 use Rattle.link.specs.Receiver.{Given, given, receiving, expressLane, preemptableLane}

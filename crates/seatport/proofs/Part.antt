@@ -12,7 +12,8 @@ use Rattle.endings.specs.Judge.{dataOf}
 use Rattle.heads.specs.Head.{Reading, known, refused, headOf}
 use Rattle.heads.proofs.Heads.{Good, head-good, no-delivery}
 use Rattle.receiver_record.specs.Records.{fresh, inRange}
-use Rattle.receive.specs.Receive.{byHead, receivedOf, dataIn, bodyOf}
+use Rattle.receive.specs.Receive.{byHead, receivedOf, dataIn}
+use Rattle.express_body.specs.Body.{bodyOf}
 use Rattle.seatport.specs.Receiving.{startOf, partOf}
 
 -- a body of an mFrame and the two words that tell it
