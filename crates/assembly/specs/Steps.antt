@@ -6,9 +6,9 @@ use Prim.Native.Nat.{ℕ, _+_}
 use Rattle.codes.specs.Codes.{fragment}
 use Rattle.codes.specs.declared.FrameCount.{FrameCount}
 use Rattle.crc.specs.Crc.{allOnes}
-use Rattle.crc.specs.Judge.{endingOf}
-use Rattle.crc.specs.declared.Ending.{Ending}
-use Rattle.crc.specs.declared.Ending.the-variants.{Done, More, Damaged}
+use Rattle.endings.specs.Judge.{endingOf}
+use Rattle.endings.specs.declared.Ending.{Ending}
+use Rattle.endings.specs.declared.Ending.the-variants.{Done, More, Damaged}
 use Rattle.mframe.specs.declared.Kind.{Kind}
 use Rattle.mframe.specs.declared.Kind.the-variants as K
 use Rattle.receiver_answers.specs.Answers.{Said, says}

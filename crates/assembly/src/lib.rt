@@ -2,7 +2,7 @@
 // lent to the crate above.
 use codes::FragmentCount;
 use codes::FrameCount;
-use crc::Ending;
+use endings::Ending;
 use mframe::Kind;
 use outcomes::Received;
 use receiver_answers::Answer;
@@ -84,8 +84,8 @@ pub fn decide(kind: Kind, octets: &[u8], record: Record) -> Received
     ensures { λ r. ⌜ told r ≡ stepOf kind (now (octets .entry)) «record» ⌝ }
 {
     match kind {
-        Kind::Express => express(crc::judge(crc::ALL_ONES, octets), record),
-        Kind::Start(frame) => start(frame, crc::judge(crc::ALL_ONES, octets), record),
+        Kind::Express => express(endings::judge(crc::ALL_ONES, octets), record),
+        Kind::Start(frame) => start(frame, endings::judge(crc::ALL_ONES, octets), record),
         Kind::Continuation(frame, fragment) => continuing::continuation(
             frame,
             fragment,
@@ -94,12 +94,12 @@ pub fn decide(kind: Kind, octets: &[u8], record: Record) -> Received
         ),
         Kind::Verify => heard(
             Answer::VerifyHeard,
-            crc::judge(crc::ALL_ONES, octets),
+            endings::judge(crc::ALL_ONES, octets),
             record,
         ),
         Kind::Respond => heard(
             Answer::RespondHeard,
-            crc::judge(crc::ALL_ONES, octets),
+            endings::judge(crc::ALL_ONES, octets),
             record,
         ),
     }

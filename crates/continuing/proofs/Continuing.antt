@@ -9,8 +9,8 @@ use lib.Dec.{eqb}
 use lib.ListN.{length}
 use Rattle.codes.specs.declared.FrameCount.{FrameCount}
 use Rattle.codes.specs.declared.FragmentCount.{FragmentCount}
-use Rattle.crc.specs.Judge.{endingOf}
-use Rattle.crc.specs.declared.Ending.{Ending}
+use Rattle.endings.specs.Judge.{endingOf}
+use Rattle.endings.specs.declared.Ending.{Ending}
 use Rattle.receiver_record.specs.declared.Record.{Record}
 use Rattle.continuing.specs.declared.Assembly.{Assembly}
 use Rattle.continuing.specs.declared.Assembly.the-variants.{Open, Closed}

@@ -2,7 +2,7 @@
 // by value.
 use codes::FragmentCount;
 use codes::FrameCount;
-use crc::Ending;
+use endings::Ending;
 use mframe::BODY_MOST;
 use mframe::CHECK;
 use outcomes::Received;
@@ -114,5 +114,5 @@ pub fn continuation(f: FrameCount, g: FragmentCount, octets: &[u8], record: Reco
     let Room::Enough(total) = room_for(kept, octets.len()) else {
         return outcomes::abandoned(Drop::Over, record);
     };
-    ended(total, crc::judge(running, octets), record)
+    ended(total, endings::judge(running, octets), record)
 }

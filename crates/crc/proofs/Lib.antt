@@ -1,5 +1,4 @@
-pub mod Endings
-pub mod Ends
+pub mod Checks
 pub mod Laws
 pub mod Linear
 pub mod Once

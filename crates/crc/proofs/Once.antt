@@ -2,14 +2,21 @@
 -- Assumes nothing.
 use mathlib.Core.Path.{_≡_, sym, _∙_}
 use mathlib.Core.List.{List}
-use Prim.Native.Nat.{ℕ}
+use Prim.Native.Nat.{ℕ, _^_, _<_}
+use Rattle.octets.specs.Word.{octetsOf}
+use Rattle.octets.proofs.Words.{octets-inj}
 use Rattle.crc.specs.Crc.{registerOver, fcsOf, mcrcOf}
-use Rattle.crc.specs.Judge.{endingOf}
-use Rattle.crc.specs.declared.Ending.{Ending}
 
 -- over
 pub over-once : (r : ℕ) (octets : List ℕ) {x y : ℕ} → x ≡ registerOver r octets → y ≡ registerOver r octets → x ≡ y
 over-once r octets p q = p ∙ sym q
+
+-- fcs_word, mcrc_word: numbers of 32 bits
+pub fcs-word-once : (r : ℕ) {x y : ℕ} → x < 2 ^ 32 → y < 2 ^ 32 → octetsOf x ≡ fcsOf r → octetsOf y ≡ fcsOf r → x ≡ y
+fcs-word-once r hx hy p q = octets-inj _ _ hx hy (p ∙ sym q)
+
+pub mcrc-word-once : (r : ℕ) {x y : ℕ} → x < 2 ^ 32 → y < 2 ^ 32 → octetsOf x ≡ mcrcOf r → octetsOf y ≡ mcrcOf r → x ≡ y
+mcrc-word-once r hx hy p q = octets-inj _ _ hx hy (p ∙ sym q)
 
 -- fcs
 pub fcs-once : (r : ℕ) {x y : List ℕ} → x ≡ fcsOf r → y ≡ fcsOf r → x ≡ y
@@ -18,7 +25,3 @@ fcs-once r p q = p ∙ sym q
 -- mcrc
 pub mcrc-once : (r : ℕ) {x y : List ℕ} → x ≡ mcrcOf r → y ≡ mcrcOf r → x ≡ y
 mcrc-once r p q = p ∙ sym q
-
--- judge
-pub judge-once : (r : ℕ) (octets : List ℕ) {x y : Ending} → x ≡ endingOf r octets → y ≡ endingOf r octets → x ≡ y
-judge-once r octets p q = p ∙ sym q

@@ -1,10 +1,9 @@
-// The check octets of document 01: the CRC of IEEE 802.3 as FCS and as mCRC, and what the last four octets of an mFrame decide.
+// The check octets of document 01: the CRC of IEEE 802.3 as FCS and as mCRC.
 ghost use mathlib.Core.Path.{_≡_};
 ghost use Prim.Native.Nat.{_≤_};
 ghost use lib.ListN.{length, drop};
 ghost use Rattle.octets.specs.Word.{octetsOf};
 ghost use Rattle.crc.specs.Crc.{bitStep, bitSteps, registerOver, fcsOf, mcrcOf};
-ghost use Rattle.crc.specs.Judge.{endingOf};
 
 // The register before a frame's first octet.
 pub const ALL_ONES: u32 = 0xFFFF_FFFF;
@@ -68,13 +67,13 @@ pub fn over(register: u32, octets: &[u8]) -> u32
 }
 
 // The numbers whose four octets are the FCS and the mCRC of a register.
-fn fcs_word(register: u32) -> u32
+pub fn fcs_word(register: u32) -> u32
     ensures { λ w. ⌜ octetsOf w ≡ fcsOf register ⌝ }
 {
     ALL_ONES - register
 }
 
-fn mcrc_word(register: u32) -> u32
+pub fn mcrc_word(register: u32) -> u32
     ensures { λ w. ⌜ octetsOf w ≡ mcrcOf register ⌝ }
 {
     (ALL_ONES - register) ^ MCRC_INVERTS
@@ -92,34 +91,4 @@ pub fn mcrc(register: u32) -> [u8; 4]
     ensures { λ r. ⌜ r ≡ mcrcOf register ⌝ }
 {
     octets::split(mcrc_word(register))
-}
-
-// What the last four octets say of a frame.
-pub enum Ending {
-    // It ends here, after so many data octets more.
-    Done(usize),
-    // More of it is to come, after so many data octets more, which leave this register.
-    More(usize, u32),
-    // They are neither its FCS nor its mCRC.
-    Damaged,
-}
-
-// An mFrame's data and check octets, of a frame whose octets before them left this register. No octet is summed twice.
-pub fn judge(register: u32, octets: &[u8]) -> Ending
-    ensures { λ e. ⌜ e ≡ endingOf register (now (octets .entry)) ⌝ }
-{
-    let n = octets.len();
-    if n < 4 {
-        return Ending::Damaged;
-    }
-    let data = n - 4;
-    let after = over(register, &octets[0..data]);
-    let last = octets::load(octets, data);
-    if last == fcs_word(after) {
-        return Ending::Done(data);
-    }
-    if last == mcrc_word(after) {
-        return Ending::More(data, after);
-    }
-    Ending::Damaged
 }

@@ -13,9 +13,9 @@ use Rattle.codes.specs.Codes.{fragment, nextFragment}
 use Rattle.codes.specs.declared.FrameCount.{FrameCount}
 use Rattle.codes.specs.declared.FragmentCount.{FragmentCount}
 use Rattle.crc.specs.Crc.{allOnes}
-use Rattle.crc.specs.Judge.{dataOf, endingOf}
-use Rattle.crc.specs.declared.Ending.{Ending}
-use Rattle.crc.specs.declared.Ending.the-variants.{Done, More, Damaged}
+use Rattle.endings.specs.Judge.{dataOf, endingOf}
+use Rattle.endings.specs.declared.Ending.{Ending}
+use Rattle.endings.specs.declared.Ending.the-variants.{Done, More, Damaged}
 use Rattle.mframe.specs.declared.Kind.{Kind}
 use Rattle.mframe.specs.declared.Kind.the-variants as K
 use Rattle.receiver_record.specs.declared.Counters.{Counters}
@@ -26,7 +26,7 @@ use Rattle.outcomes.specs.Outcomes.{Step, delimiterError, unchanged, abandoned}
 use Rattle.continuing.specs.Continuing.{endedOf, unexpected, totalOf, continuationOf}
 use Rattle.assembly.specs.Steps.{expressOf, heardOf, startOf, stepOf}
 use Rattle.receive.specs.Receive.{leftOf}
-use Rattle.crc.proofs.Endings.{Ends, ends}
+use Rattle.endings.proofs.Endings.{Ends, ends}
 use Rattle.link.specs.Frames.{ifSo}
 use Rattle.link.proofs.Buffer.{keeps, as-long}
 

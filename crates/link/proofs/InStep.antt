@@ -8,7 +8,7 @@ use borrow.Author.Tests.{ltb-false}
 use lib.Dec.{eqb, ltb}
 use lib.ListN.{length, take, drop, length-drop}
 use Rattle.crc.specs.Crc.{allOnes}
-use Rattle.crc.specs.Judge.{endingOf}
+use Rattle.endings.specs.Judge.{endingOf}
 use Rattle.heads.specs.Head.{Reading, known, refused, headOf}
 use Rattle.mframe.specs.declared.Kind.the-variants as K
 use Rattle.receiver_record.specs.declared.Counters.{Counters}
@@ -16,9 +16,10 @@ use Rattle.receiver_record.specs.declared.Record.{Record}
 use Rattle.receiver_answers.specs.Answers.{Said, says}
 use Rattle.receiver_record.specs.Records.{fresh, counting, inRange}
 use Rattle.outcomes.specs.Outcomes.{Step, unchanged}
-use Rattle.receive.specs.Receive.{byHead, receivedOf, dataIn, bufferOf, bodyOf}
+use Rattle.receive.specs.Receive.{byHead, receivedOf, dataIn, bufferOf}
+use Rattle.express_body.specs.Body.{bodyOf}
 use Rattle.heads.proofs.Heads.{Refusal, n12, n13, n14, n15, n16, n17, Good, head-good}
-use Rattle.crc.proofs.Endings.{ends}
+use Rattle.endings.proofs.Endings.{ends}
 use Rattle.receive_histories.specs.History.{isStart, refusal}
 use Rattle.link.specs.Frames.{ifSo}
 use Rattle.link.specs.Receiver.{Given, receiving, unrefusedStart}

@@ -9,10 +9,10 @@ use lib.Dec.{eqb}
 use lib.ListN.{length, take, length-append}
 use Rattle.octets.specs.Laid.{laid}
 use Rattle.crc.specs.Crc.{allOnes, registerOver, fcsOf, mcrcOf}
-use Rattle.crc.specs.Judge.{endingOf}
-use Rattle.crc.specs.declared.Ending.the-variants.{Done, More}
+use Rattle.endings.specs.Judge.{endingOf}
+use Rattle.endings.specs.declared.Ending.the-variants.{Done, More}
 use Rattle.crc.proofs.Laws.{register-append, fcs-length, mcrc-length}
-use Rattle.crc.proofs.Endings.{ending-done, ending-more}
+use Rattle.endings.proofs.Endings.{ending-done, ending-more}
 use Rattle.codes.specs.Codes.{frame, fragment}
 use Rattle.mframe.proofs.Laws.{Counted}
 use Rattle.send.specs.Preemptable.{checkOf}

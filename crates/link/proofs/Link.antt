@@ -7,7 +7,7 @@ use native.Mathlib.Omega.{arith}
 use lib.ListN.{length, length-append, length-replicate}
 use Rattle.crc.specs.Crc.{allOnes, registerOver, fcsOf, mcrcOf}
 use Rattle.crc.proofs.Laws.{fcs-length, mcrc-length}
-use Rattle.crc.proofs.Endings.{ending-done, ending-more}
+use Rattle.endings.proofs.Endings.{ending-done, ending-more}
 use Rattle.mframe.specs.Octets.{mFrameOf}
 use Rattle.single.specs.Single.{zeros}
 use Rattle.mframe.specs.declared.Kind.{Kind}
@@ -20,7 +20,8 @@ use Rattle.receiver_answers.specs.Answers.{says}
 use Rattle.receiver_record.specs.Records.{inRange}
 use Rattle.outcomes.specs.Outcomes.{Step}
 use Rattle.assembly.specs.Steps.{stepOf}
-use Rattle.receive.specs.Receive.{receivedOf, leftOf, bufferOf, bodyOf}
+use Rattle.receive.specs.Receive.{receivedOf, leftOf, bufferOf}
+use Rattle.express_body.specs.Body.{bodyOf}
 use Rattle.link.specs.Sender.{Fate, arrives, lost, MFrame, express, part, order}
 use Rattle.link.specs.Frames.{fates, arrivals, expressExpected, framesSent, noneLost, ifSo, unharmed}
 use Rattle.link.specs.Receiver.{Given, given, receiving, expressLane, preemptableLane}

@@ -8,7 +8,7 @@ use borrow.Author.Tests.{le-ltb}
 use lib.Dec.{eqb}
 use lib.ListN.{length, drop, length-append}
 use lib.Seq.{drop-at}
-use Rattle.crc.proofs.Endings.{data-of}
+use Rattle.endings.proofs.Endings.{data-of}
 use Rattle.mframe.specs.Octets.{headerOf, mFrameOf}
 use Rattle.heads.specs.Head.{known, headOf}
 use Rattle.mframe.specs.declared.Kind.{Kind}
@@ -17,7 +17,8 @@ use Rattle.heads.proofs.Laws.{head-read}
 use Rattle.receiver_record.specs.declared.Record.{Record}
 use Rattle.receiver_record.specs.Records.{fresh, inRange}
 use Rattle.assembly.specs.Steps.{stepOf}
-use Rattle.receive.specs.Receive.{receivedOf, leftOf, bufferOf, bodyOf}
+use Rattle.receive.specs.Receive.{receivedOf, leftOf, bufferOf}
+use Rattle.express_body.specs.Body.{bodyOf}
 
 -- the data and check octets of an mFrame
 pub record Carried (kind : Kind) (part check : List ℕ) : Type 0 where

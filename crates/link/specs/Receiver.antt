@@ -7,7 +7,8 @@ use lib.ListN.{length, take}
 use Rattle.heads.specs.Head.{headOf}
 use Rattle.receiver_answers.specs.Answers.{Said}
 use Rattle.receiver_record.specs.declared.Record.{Record}
-use Rattle.receive.specs.Receive.{receivedOf, bufferOf, bodyOf}
+use Rattle.receive.specs.Receive.{receivedOf, bufferOf}
+use Rattle.express_body.specs.Body.{bodyOf}
 use Rattle.receive_histories.specs.History.{isStart, refusal}
 use Rattle.link.specs.Frames.{ifSo}
 

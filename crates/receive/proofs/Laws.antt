@@ -1,4 +1,4 @@
--- Laws of the definitions: a refused head writes nothing, only an express mFrame is answered 0, and data written end within the buffer.
+-- Laws of the definitions: a refused head writes nothing, and data written end within the buffer.
 -- Assumes nothing.
 use mathlib.Core.Path.{_≡_, refl, sym, _∙_}
 use mathlib.Core.Bool.{Bool, true, false, not, cond, false≢true}
@@ -6,27 +6,26 @@ use mathlib.Core.List.{List}
 use Prim.Native.Nat.{ℕ, _-_, _≤_}
 use native.Mathlib.Omega.{arith}
 use borrow.Author.Tests.{ltb-false}
-use lib.Dec.{eqb, ltb}
+use lib.Dec.{ltb}
 use lib.ListN.{length}
 use Rattle.codes.specs.declared.FrameCount.{FrameCount}
 use Rattle.codes.specs.declared.FragmentCount.{FragmentCount}
 use Rattle.crc.specs.Crc.{allOnes}
-use Rattle.crc.specs.Judge.{endingOf}
-use Rattle.crc.specs.declared.Ending.{Ending}
-use Rattle.crc.proofs.Endings.{Ends, ends}
-use Rattle.crc.specs.declared.Ending.the-variants.{Done, More, Damaged}
+use Rattle.endings.specs.Judge.{endingOf}
+use Rattle.endings.specs.declared.Ending.{Ending}
+use Rattle.endings.proofs.Endings.{Ends, ends}
+use Rattle.endings.specs.declared.Ending.the-variants.{Done, More, Damaged}
 use Rattle.heads.specs.Head.{faultNumber}
 use Rattle.mframe.specs.declared.Kind.{Kind}
 use Rattle.mframe.specs.declared.Kind.the-variants as K
 use Rattle.heads.specs.declared.Fault.{Fault}
 use Rattle.heads.specs.declared.Fault.the-variants.{Short, Long, Preamble, Delimiter, Place, Fragment}
 use Rattle.receiver_record.specs.declared.Record.{Record}
-use Rattle.receiver_answers.specs.Answers.{Said, says}
-use Rattle.receiver_record.specs.Records.{fresh}
+use Rattle.receiver_answers.specs.Answers.{says}
 use Rattle.outcomes.specs.Outcomes.{Step, unchanged, abandoned}
-use Rattle.continuing.specs.Continuing.{endedOf, unexpected, totalOf, continuationOf}
 use Rattle.assembly.specs.Steps.{expressOf, heardOf, startOf, stepOf}
-use Rattle.receive.specs.Receive.{writes, isDone, expressDelivered}
+use Rattle.continuing.specs.Continuing.{endedOf, unexpected, totalOf, continuationOf}
+use Rattle.receive.specs.Receive.{writes}
 
 -- a head that is refused: its answer writes nothing, and is no delivery
 pub refused-writes : (fault : Fault) → writes (faultNumber fault) ≡ false
@@ -36,30 +35,6 @@ refused-writes Preamble = refl
 refused-writes (Delimiter bits) = refl
 refused-writes Place = refl
 refused-writes Fragment = refl
-
--- which mFrames are answered 0 with a fresh record: an express one whose FCS is right, and no other
-express-zero : (e : Ending) → eqb (expressOf e fresh .said .number) 0 ≡ isDone e
-express-zero (Done n) = refl
-express-zero (More n running) = refl
-express-zero Damaged = refl
-
-start-zero : (f : FrameCount) (e : Ending) → eqb (startOf f e fresh .said .number) 0 ≡ false
-start-zero f (Done n) = refl
-start-zero f (More n running) = refl
-start-zero f Damaged = refl
-
-heard-zero : (s : Said) (e : Ending) → eqb (s .number) 0 ≡ false → eqb (heardOf s e fresh .said .number) 0 ≡ false
-heard-zero s (Done n) h = refl
-heard-zero s (More n running) h = h
-heard-zero s Damaged h = refl
-
-pub zero-delivers : (kind : Kind) (s : List ℕ) → eqb (stepOf kind s fresh .said .number) 0 ≡ expressDelivered kind s
-unfolding continuationOf
-zero-delivers K.Express s = express-zero (endingOf allOnes s)
-zero-delivers (K.Start f) s = start-zero f (endingOf allOnes s)
-zero-delivers (K.Continuation f g) s = refl
-zero-delivers K.Verify s = heard-zero (says 3 0) (endingOf allOnes s) refl
-zero-delivers K.Respond s = heard-zero (says 4 0) (endingOf allOnes s) refl
 
 -- data that are written end behind their own number, within the longest body
 abbrev pub Within : List ℕ → Step → Type 0

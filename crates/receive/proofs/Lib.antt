@@ -1,3 +1,4 @@
+pub mod Known
 pub mod Laws
 pub mod Once
 pub mod Promise

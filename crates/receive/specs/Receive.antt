@@ -1,23 +1,18 @@
--- What any octets are answered, what becomes of the record and of each octet of the buffer, and the express body (document 01,
--- "Receiving"). Assumes nothing.
+-- What any octets are answered, and what becomes of the record and of each octet of the buffer (document 01, "Receiving"). Assumes nothing.
 use mathlib.Core.Path.{_≡_}
-use mathlib.Core.Bool.{Bool, true, false, not, cond, _||_}
+use mathlib.Core.Bool.{Bool, not, cond, _||_}
 use mathlib.Core.List.{List, []}
 use Prim.Native.Nat.{ℕ, _-_}
 use lib.Dec.{eqb, ltb}
 use lib.ListN.{length, drop}
 use Rattle.octets.specs.Laid.{laid}
-use Rattle.crc.specs.Crc.{allOnes}
-use Rattle.crc.specs.Judge.{dataOf, endingOf}
-use Rattle.crc.specs.declared.Ending.{Ending}
-use Rattle.crc.specs.declared.Ending.the-variants.{Done, More, Damaged}
+use Rattle.endings.specs.Judge.{dataOf}
 use Rattle.heads.specs.Head.{Reading, known, refused, headOf}
 use Rattle.mframe.specs.declared.Kind.{Kind}
-use Rattle.mframe.specs.declared.Kind.the-variants as K
 use Rattle.receiver_record.specs.declared.Record.{Record}
 use Rattle.outcomes.specs.declared.Received.{Received}
 use Rattle.receiver_answers.specs.Answers.{Said, says}
-use Rattle.receiver_record.specs.Records.{fresh, inRange}
+use Rattle.receiver_record.specs.Records.{inRange}
 use Rattle.outcomes.specs.Outcomes.{Step, told, unchanged}
 use Rattle.assembly.specs.Steps.{stepOf}
 
@@ -60,21 +55,3 @@ pub record Answered (m : List ℕ) (r : Record) (b : List ℕ) (got : Received) 
 pub record Taken (kind : Kind) (octets : List ℕ) (r : Record) (b : List ℕ) (got : Received) (b′ : List ℕ) : Type 0 where
   pub step : told got ≡ stepOf kind octets r
   pub left : b′ ≡ leftOf (stepOf kind octets r .said) (dataOf octets) b
-
--- whether the last four octets are the FCS of the frame so far
-abbrev pub isDone : Ending → Bool
-isDone (Done n) = true
-isDone (More n running) = false
-isDone Damaged = false
-
--- whether an mFrame of a kind, by its data and check octets, is an express frame that is delivered
-abbrev pub expressDelivered : Kind → List ℕ → Bool
-expressDelivered K.Express octets = isDone (endingOf allOnes octets)
-expressDelivered (K.Start frame) octets = false
-expressDelivered (K.Continuation frame fragment) octets = false
-expressDelivered K.Verify octets = false
-expressDelivered K.Respond octets = false
-
--- the express body: the data "if it would be 0 with a fresh record and a buffer of 1,518, else the empty part at its front"
-unfoldable pub bodyOf : List ℕ → List ℕ
-bodyOf m = cond (eqb (receivedOf m fresh 1518 .said .number) 0) (dataIn (headOf m) m) []

@@ -1,5 +1,4 @@
-// The receiving side (document 01, "Receiving"): one mFrame to an answer, the record to keep and the assembly buffer; and an express body.
-use crc::Ending;
+// The receiving side (document 01, "Receiving"): one mFrame to an answer, the record to keep and the assembly buffer.
 use heads::Head;
 use mframe::BODY_MOST;
 use mframe::CHECK;
@@ -10,8 +9,8 @@ use receiver_record::Record;
 ghost use mathlib.Core.Path.{_≡_};
 ghost use Prim.Native.Nat.{_+_, _≤_};
 ghost use lib.ListN.{length};
-ghost use Rattle.crc.specs.Judge.{dataOf};
-ghost use Rattle.receive.specs.Receive.{writes, upTo, Taken, Answered, isDone, expressDelivered, bodyOf};
+ghost use Rattle.endings.specs.Judge.{dataOf};
+ghost use Rattle.receive.specs.Receive.{writes, upTo, Taken, Answered};
 
 // Whether an answer has the data written.
 fn writes(number: u32) -> bool
@@ -60,41 +59,4 @@ pub fn receive(mframe: &[u8], record: Record, buffer: &mut [u8]) -> Received
         Head::Known(kind, place) => take(kind, &mframe[place..], record, buffer),
         Head::Refused(fault) => outcomes::refuse(Refusal::Head(fault), record),
     }
-}
-
-fn is_done(ending: Ending) -> bool
-    ensures { λ b. ⌜ b ≡ isDone ending ⌝ }
-{
-    match ending {
-        Ending::Done(_) => true,
-        Ending::More(_, _) => false,
-        Ending::Damaged => false,
-    }
-}
-
-// Whether an mFrame of a kind, by its data and check octets, is an express frame that is delivered.
-fn delivers_express(kind: Kind, octets: &[u8]) -> bool
-    ensures { λ b. ⌜ b ≡ expressDelivered kind (now (octets .entry)) ⌝ }
-{
-    match kind {
-        Kind::Express => is_done(crc::judge(crc::ALL_ONES, octets)),
-        Kind::Start(_) => false,
-        Kind::Continuation(_, _) => false,
-        Kind::Verify => false,
-        Kind::Respond => false,
-    }
-}
-
-// The body of an express mFrame, as the caller's own octets; of any other the empty part at its front.
-pub fn express_body(mframe: &[u8]) -> &[u8]
-    ensures { λ r. ⌜ now r ≡ bodyOf (now (mframe .entry)) ⌝ }
-{
-    let Head::Known(kind, place) = heads::head_of(mframe) else {
-        return &mframe[0..0];
-    };
-    if delivers_express(kind, &mframe[place..]) {
-        let end = mframe.len() - CHECK;
-        return &mframe[place..end];
-    }
-    &mframe[0..0]
 }

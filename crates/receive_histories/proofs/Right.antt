@@ -15,9 +15,9 @@ use Rattle.codes.specs.Codes.{fragment, nextFragment}
 use Rattle.codes.specs.declared.FrameCount.{FrameCount}
 use Rattle.codes.specs.declared.FragmentCount.{FragmentCount}
 use Rattle.crc.specs.Crc.{allOnes, registerOver}
-use Rattle.crc.specs.Judge.{dataOf, endingOf}
-use Rattle.crc.specs.declared.Ending.{Ending}
-use Rattle.crc.specs.declared.Ending.the-variants.{Done, More, Damaged}
+use Rattle.endings.specs.Judge.{dataOf, endingOf}
+use Rattle.endings.specs.declared.Ending.{Ending}
+use Rattle.endings.specs.declared.Ending.the-variants.{Done, More, Damaged}
 use Rattle.crc.proofs.Laws.{register-append}
 use Rattle.heads.specs.Head.{Reading, known, refused, headOf}
 use Rattle.mframe.specs.declared.Kind.{Kind}
@@ -32,7 +32,7 @@ use Rattle.continuing.specs.Continuing.{endedOf, unexpected, totalOf, continuat
 use Rattle.assembly.specs.Steps.{expressOf, heardOf, startOf, stepOf}
 use Rattle.receive.specs.Receive.{byHead, receivedOf, upTo, leftOf, dataIn, bufferOf}
 use Rattle.heads.proofs.Heads.{Refusal, n12, n13, n14, n15, n16, n17, Good, head-good}
-use Rattle.crc.proofs.Endings.{Ends, ends}
+use Rattle.endings.proofs.Endings.{Ends, ends}
 
 -- an assembly that is open
 pub record Held (f : FrameCount) (g : FragmentCount) (n c : ℕ) (b : List ℕ) : Type 0 where

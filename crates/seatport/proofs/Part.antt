@@ -8,11 +8,12 @@ use native.Mathlib.Omega.{arith}
 use lib.Dec.{eqb}
 use lib.ListN.{length, drop, length-drop}
 use lib.Seq.{length-take-le}
-use Rattle.crc.specs.Judge.{dataOf}
+use Rattle.endings.specs.Judge.{dataOf}
 use Rattle.heads.specs.Head.{Reading, known, refused, headOf}
 use Rattle.heads.proofs.Heads.{Good, head-good, no-delivery}
 use Rattle.receiver_record.specs.Records.{fresh, inRange}
-use Rattle.receive.specs.Receive.{byHead, receivedOf, dataIn, bodyOf}
+use Rattle.receive.specs.Receive.{byHead, receivedOf, dataIn}
+use Rattle.express_body.specs.Body.{bodyOf}
 use Rattle.seatport.specs.Receiving.{startOf, partOf}
 
 -- a body of an mFrame and the two words that tell it

@@ -9,7 +9,8 @@ use lib.ListN.{length}
 use Rattle.heads.specs.Head.{Reading, known, refused, headOf}
 use Rattle.receiver_record.specs.Records.{fresh}
 use Rattle.outcomes.specs.Outcomes.{Step}
-use Rattle.receive.specs.Receive.{receivedOf, bufferOf, bodyOf}
+use Rattle.receive.specs.Receive.{receivedOf, bufferOf}
+use Rattle.express_body.specs.Body.{bodyOf}
 use Rattle.receiver_words.specs.Receiver.{receiverWords, receiverFits, receiverOf}
 
 -- what comes of a call

@@ -34,7 +34,7 @@ pub extern "C" fn seatport_receive(
 pub extern "C" fn seatport_express_body(mframe: &[u8], body: &mut [u32; 2])
     ensures { λ _. ⌜ now (body .exit) ≡ partOf (now (mframe .entry)) ⌝ }
 {
-    let part = receive::express_body(mframe);
+    let part = express_body::express_body(mframe);
     let n = part.len();
     if n == 0 {
         *body = [0, 0];

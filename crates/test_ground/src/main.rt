@@ -2,11 +2,11 @@
 // files; the answers expected come from the reference alone.
 use codes::FragmentCount;
 use codes::FrameCount;
-use crc::Ending;
 use cut::Ask;
 use cut::Part;
 use delimiters::Delimiter;
 use delimiters::Fragment;
+use endings::Ending;
 use test_questions::read;
 use test_questions::read::Came;
 use test_questions::say;
@@ -152,7 +152,7 @@ fn over_octets(check: bool) -> Went {
     if check {
         return Went::answered(check_lines(register, octets));
     }
-    Went::answered(say_ending(crc::judge(register, octets)))
+    Went::answered(say_ending(endings::judge(register, octets)))
 }
 
 // A piece laid into memory.

@@ -38,7 +38,7 @@ fn arrive(l: Link, mframe: &[u8], buffer: &mut [u8]) -> Link {
     say::first(number as u64);
     say::number(detail as u64);
     if number == 0 {
-        say_body(receive::express_body(mframe));
+        say_body(express_body::express_body(mframe));
     }
     if number == 1 {
         say_body(read::front(buffer, detail));

@@ -88,7 +88,7 @@ fn start_of_body(mframe: &[u8]) -> u32 {
 }
 
 fn say_body(mframe: &[u8]) {
-    let body = receive::express_body(mframe);
+    let body = express_body::express_body(mframe);
     say::number(start_of_body(mframe) as u64);
     say::number(body.len() as u64);
     say_check(body);

@@ -1,7 +1,7 @@
 -- `crc::mcrc_word` meets its contract.
 -- Assumes nothing.
 use borrow.Author.Needs.{needs}
-use Rattle.crc.proofs.Ends.{mcrc-octets}
+use Rattle.crc.proofs.Checks.{mcrc-octets}
 use Rattle.crc.proofs.mcrc_word.Statement.{statement}
 use Rattle.crc.proofs.mcrc_word.Tie as tie
 

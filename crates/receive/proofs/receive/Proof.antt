@@ -1,7 +1,8 @@
 -- `receive::receive` meets its contract.
 -- Assumes nothing.
 use native.Mathlib.Omega.{arith}
-use Rattle.receive.proofs.Promise.{short, outside, answered, faulty, spacious, roomy}
+use Rattle.receive.proofs.Known.{spacious, roomy}
+use Rattle.receive.proofs.Promise.{short, outside, answered, faulty}
 use borrow.Author.Needs.{needs}
 use Rattle.receive.proofs.receive.Statement.{statement}
 use Rattle.receive.proofs.receive.Tie as tie

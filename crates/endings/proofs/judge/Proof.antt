@@ -1,4 +1,4 @@
--- `crc::judge` meets its contract.
+-- `endings::judge` meets its contract.
 -- Assumes nothing.
 use mathlib.Core.Path.{_≡_, sym, ap, _∙_}
 use mathlib.Core.List.{List}
@@ -9,13 +9,13 @@ use borrow.Author.Needs.{needs}
 use lib.ListN.{length, take}
 use Rattle.octets.specs.Word.{octetsOf}
 use Rattle.octets.proofs.Words.{octets-inj}
 use Rattle.crc.specs.Crc.{registerOver}
-use Rattle.crc.specs.Judge.{lastFour, decided, endingOf}
-use Rattle.crc.specs.declared.Ending.{Ending}
-use Rattle.crc.proofs.Endings.{done-if, more-if, damaged-if, short-damaged}
-use Rattle.crc.proofs.Ends.{last-word}
-use Rattle.crc.proofs.judge.Statement.{statement}
-use Rattle.crc.proofs.judge.Tie as tie
+use Rattle.endings.specs.Judge.{lastFour, decided, endingOf}
+use Rattle.endings.specs.declared.Ending.{Ending}
+use Rattle.endings.proofs.Endings.{done-if, more-if, damaged-if, short-damaged}
+use Rattle.endings.proofs.Ends.{last-word}
+use Rattle.endings.proofs.judge.Statement.{statement}
+use Rattle.endings.proofs.judge.Tie as tie
 
 -- the register that was summed over the part lent is the one over the data
 judged : (r after : ℕ) (s : List ℕ) (e : Ending) → after ≡ registerOver r (take (length s - 4 - 0) s) → decided after (length s - 4) (lastFour s) ≡ e → e ≡ endingOf r s

@@ -1,10 +1,11 @@
--- `receive::express_body` meets its contract.
+-- `express_body::express_body` meets its contract.
 -- Assumes nothing.
 use native.Mathlib.Omega.{arith}
-use Rattle.receive.proofs.Promise.{spacious, no-body, body, other}
+use Rattle.receive.proofs.Known.{spacious}
+use Rattle.express_body.proofs.Promise.{no-body, body, other}
 use borrow.Author.Needs.{needs}
-use Rattle.receive.proofs.express_body.Statement.{statement}
-use Rattle.receive.proofs.express_body.Tie as tie
+use Rattle.express_body.proofs.express_body.Statement.{statement}
+use Rattle.express_body.proofs.express_body.Tie as tie
 
 head-of-requires : tie.Need-head-of-requires
 head-of-requires c κs = search needs

@@ -10,11 +10,11 @@ use lib.Dec.{T, eqb}
 use lib.ListN.{length, length-append, length-drop}
 use lib.Seq.{take-at, drop-at}
 use Rattle.rules.proofs.Tests.{both}
 use Rattle.crc.specs.Crc.{registerOver, fcsOf, mcrcOf}
-use Rattle.crc.specs.Judge.{dataOf, lastFour, same, decided, endingOf}
-use Rattle.crc.specs.declared.Ending.{Ending}
-use Rattle.crc.specs.declared.Ending.the-variants.{Done, More, Damaged}
+use Rattle.endings.specs.Judge.{dataOf, lastFour, same, decided, endingOf}
+use Rattle.endings.specs.declared.Ending.{Ending}
+use Rattle.endings.specs.declared.Ending.the-variants.{Done, More, Damaged}
 use Rattle.crc.proofs.Laws.{fcs-length, mcrc-length, fcs-not-mcrc}
 
 -- the test of two lists says what it should
 same-self : (xs : List ℕ) → same xs xs ≡ true

@@ -1,8 +1,8 @@
--- `receive::delivers_express` meets its contract.
+-- `express_body::delivers_express` meets its contract.
 -- Assumes nothing.
 use borrow.Author.Needs.{needs}
-use Rattle.receive.proofs.delivers_express.Statement.{statement}
-use Rattle.receive.proofs.delivers_express.Tie as tie
+use Rattle.express_body.proofs.delivers_express.Statement.{statement}
+use Rattle.express_body.proofs.delivers_express.Tie as tie
 
 enum-told : tie.Need-enum-told
 enum-told c = search needs

@@ -1,16 +1,12 @@
--- The check octets as numbers, and the last four octets as one.
+-- The check octets as numbers.
 -- Assumes nothing.
 use mathlib.Core.Path.{_≡_, refl, ap, ap₂, _∙_}
-use mathlib.Core.List.{List, [], _∷_}
-use Prim.Native.Nat.{ℕ, _-_, _/_, _%_, _^_, _≤_, _<_}
+use mathlib.Core.List.{[], _∷_}
+use Prim.Native.Nat.{ℕ, _-_, _/_, _%_, _^_, _<_}
 use native.Mathlib.Omega.{arith}
 use lib.Bits.{bitXor, bitAnd, xor-shr, xor-mod, xor-zero-r, xor-add-and, and-mask}
-use lib.ListN.{length, getD, length-drop}
-use lib.Seq.{take-all}
-use Rattle.octets.specs.Word.{wordAt, octetsOf}
-use Rattle.octets.proofs.Words.{octets-of-word}
+use Rattle.octets.specs.Word.{octetsOf}
 use Rattle.crc.specs.Crc.{allOnes, fcsOf, inverted, mcrcOf}
-use Rattle.crc.specs.Judge.{lastFour}
 
 pub fcs-octets : (r : ℕ) → octetsOf (allOnes - r) ≡ fcsOf r
 unfolding fcsOf
@@ -40,9 +36,3 @@ mcrc-octets r =
     (xor-mod w lastTwo 8 ∙ xor-zero-r (w % 256)) (octet-xor 8 w lastTwo ∙ xor-zero-r (w / 256 % 256))
     ∙ ap₂ (λ (x y : ℕ). w % 256 ∷ w / 256 % 256 ∷ x ∷ y ∷ [])
     (octet-xor 16 w lastTwo ∙ xor-inverts (w / 65536)) (octet-xor 24 w lastTwo ∙ xor-inverts (w / 16777216))
-
--- the last four octets are those of the last word
-pub last-word : (s : List ℕ) → ((k : ℕ) → getD s k 0 < 256) → 4 ≤ length s → (w : ℕ) → w ≡ wordAt s (length s - 4) → octetsOf w ≡ lastFour s
-last-word s o h w e =
-    ap octetsOf e ∙ octets-of-word s o (length s - 4) (omega arith)
-    ∙ take-all 4 (lastFour s) (let g : length (lastFour s) ≤ 4 = simp length-drop (omega arith) in g)

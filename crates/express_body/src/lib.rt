@@ -1,0 +1,45 @@
+// The body of an express mFrame (document 01, "Receiving"), as the caller's own octets.
+use endings::Ending;
+use heads::Head;
+use mframe::CHECK;
+use mframe::Kind;
+ghost use mathlib.Core.Path.{_≡_};
+ghost use Rattle.express_body.specs.Body.{isDone, expressDelivered, bodyOf};
+
+// Whether the last four octets are the FCS of the frame so far.
+fn is_done(ending: Ending) -> bool
+    ensures { λ b. ⌜ b ≡ isDone ending ⌝ }
+{
+    match ending {
+        Ending::Done(_) => true,
+        Ending::More(_, _) => false,
+        Ending::Damaged => false,
+    }
+}
+
+// Whether an mFrame of a kind, by its data and check octets, is an express frame that is delivered.
+fn delivers_express(kind: Kind, octets: &[u8]) -> bool
+    ensures { λ b. ⌜ b ≡ expressDelivered kind (now (octets .entry)) ⌝ }
+{
+    match kind {
+        Kind::Express => is_done(endings::judge(crc::ALL_ONES, octets)),
+        Kind::Start(_) => false,
+        Kind::Continuation(_, _) => false,
+        Kind::Verify => false,
+        Kind::Respond => false,
+    }
+}
+
+// The body of an express mFrame, as the caller's own octets; of any other the empty part at its front.
+pub fn express_body(mframe: &[u8]) -> &[u8]
+    ensures { λ r. ⌜ now r ≡ bodyOf (now (mframe .entry)) ⌝ }
+{
+    let Head::Known(kind, place) = heads::head_of(mframe) else {
+        return &mframe[0..0];
+    };
+    if delivers_express(kind, &mframe[place..]) {
+        let end = mframe.len() - CHECK;
+        return &mframe[place..end];
+    }
+    &mframe[0..0]
+}
