@@ -6,8 +6,8 @@ use test_questions::went::Next;
 use test_questions::went::Went;
 use verify::Answer;
 use verify::Event;
-use verify::Phase;
-use verify::Record;
+use verify_record::Phase;
+use verify_record::Record;
 
 // What is kept from question to question: the record, and how the last one went.
 struct Kept {

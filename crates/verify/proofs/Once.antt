@@ -3,8 +3,8 @@
 use mathlib.Core.Path.{_≡_, refl, sym, ap, _∙_}
 use mathlib.Core.Bool.{cond}
 use lib.Dec.{eqb}
-use Rattle.verify.specs.Verify.{fresh, Said, said, told, stepOf}
-use Rattle.verify.specs.declared.Record.{Record}
+use Rattle.verify_record.specs.declared.Record.{Record}
+use Rattle.verify.specs.Verify.{Said, said, told, stepOf}
 use Rattle.verify.specs.declared.Event.{Event}
 use Rattle.verify.specs.declared.Answer.{Answer}
 use Rattle.verify.specs.declared.Answer.the-variants.{Taken, Refused}
@@ -20,10 +20,6 @@ back Refused = refl
 
 said-once : (a b : Answer) → said a ≡ said b → a ≡ b
 said-once a b e = sym (back a) ∙ ap unsaid e ∙ back b
-
--- Record::fresh
-pub fresh-once : {x y : Record} → x ≡ fresh → y ≡ fresh → x ≡ y
-fresh-once p q = p ∙ sym q
 
 -- step
 pub step-once : (r : Record) (e : Event) {x y : Stepped} → told x ≡ stepOf r e → told y ≡ stepOf r e → x ≡ y

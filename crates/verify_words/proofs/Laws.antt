@@ -7,9 +7,9 @@ use Prim.Native.Nat.{ℕ, zero, suc, _≤_}
 use native.Mathlib.Omega.{arith}
 use borrow.Author.Tests.{leb-true}
 use lib.Dec.{leb}
-use Rattle.verify.specs.declared.Phase.{Phase}
-use Rattle.verify.specs.declared.Phase.the-variants.{Off, Trying, Verified, Failed}
-use Rattle.verify.specs.declared.Record.{Record as Link}
+use Rattle.verify_record.specs.declared.Phase.{Phase}
+use Rattle.verify_record.specs.declared.Phase.the-variants.{Off, Trying, Verified, Failed}
+use Rattle.verify_record.specs.declared.Record.{Record as Link}
 use Rattle.words.specs.Words.{word, isFlag, isCount}
 use Rattle.words.proofs.Laws.{flag-read, flag-written}
 use Rattle.verify_words.specs.Link.{phaseNumber, phaseOf, linkWords, linkFits, linkOf}

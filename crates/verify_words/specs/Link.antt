@@ -4,9 +4,9 @@ use mathlib.Core.Bool.{Bool, cond, _&&_}
 use mathlib.Core.List.{List, [], _∷_}
 use Prim.Native.Nat.{ℕ}
 use lib.Dec.{eqb, leb}
-use Rattle.verify.specs.declared.Phase.{Phase}
-use Rattle.verify.specs.declared.Phase.the-variants.{Off, Trying, Verified, Failed}
-use Rattle.verify.specs.declared.Record.{Record}
+use Rattle.verify_record.specs.declared.Phase.{Phase}
+use Rattle.verify_record.specs.declared.Phase.the-variants.{Off, Trying, Verified, Failed}
+use Rattle.verify_record.specs.declared.Record.{Record}
 use Rattle.verify.specs.declared.Event.{Event}
 use Rattle.verify.specs.declared.Event.the-variants.{Enable, Disable, LinkFailed, ResponseHeard, VerifyHeard, ResponseSent, Millisecond}
 use Rattle.words.specs.Words.{flag, word, isFlag, flagAt, isCount}

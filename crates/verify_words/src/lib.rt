@@ -1,8 +1,8 @@
 // The verification record, its events and what it answers, as words of 32 bits.
 use verify::Answer;
 use verify::Event;
-use verify::Phase;
-use verify::Record;
+use verify_record::Phase;
+use verify_record::Record;
 ghost use mathlib.Core.Path.{_≡_};
 ghost use Prim.Native.Nat.{_≤_};
 ghost use lib.ListN.{getD};

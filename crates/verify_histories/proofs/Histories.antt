@@ -10,14 +10,16 @@ use native.Mathlib.Omega.{arith}
 use lib.Dec.{ltb}
 use borrow.Author.Tests.{lt-ltb, le-ltb}
 use Rattle.rules.proofs.Tests.{by-test, never}
-use Rattle.verify.specs.Verify.{wait, attempts, fresh, isOff, isTrying, counted, inRange, Told, rests, tries, owing, effect, stepOf}
-use Rattle.verify.specs.Histories.{recordAfter, is, one, times, verifies, begins, beginnings, HeardInTrying}
-use Rattle.verify.specs.declared.Phase.{Phase}
-use Rattle.verify.specs.declared.Phase.the-variants.{Off, Trying, Verified, Failed}
-use Rattle.verify.specs.declared.Record.{Record}
+use Rattle.verify_record.specs.Ranges.{wait, attempts, fresh, isOff, isTrying, counted, inRange}
+use Rattle.verify_record.specs.declared.Phase.{Phase}
+use Rattle.verify_record.specs.declared.Phase.the-variants.{Off, Trying, Verified, Failed}
+use Rattle.verify_record.specs.declared.Record.{Record}
+use Rattle.verify.specs.Verify.{Told, rests, tries, owing, effect, stepOf}
 use Rattle.verify.specs.declared.Event.{Event}
 use Rattle.verify.specs.declared.Event.the-variants.{Enable, Disable, LinkFailed, ResponseHeard, VerifyHeard, ResponseSent, Millisecond}
-use Rattle.verify.proofs.Laws.{step-taken, step-refused, by-tick, running, in-range-kept, step-in-range}
+use Rattle.verify.proofs.Laws.{step-taken, step-refused}
+use Rattle.verify_histories.specs.Histories.{recordAfter, is, one, times, verifies, begins, beginnings, HeardInTrying}
+use Rattle.verify_histories.proofs.Ranges.{by-tick, running, in-range-kept, step-in-range}
 
 -- the record after no event, after a first one, and after two histories
 after-none : (r : Record) → recordAfter r [] ≡ r

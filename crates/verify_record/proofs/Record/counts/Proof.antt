@@ -1,9 +1,9 @@
--- `verify::Record::counts` meets its contract.
+-- `verify_record::Record::counts` meets its contract.
 -- Assumes nothing.
 use borrow.Author.Tests.{lt-leb, le-leb}
-use Rattle.verify.specs.Verify.{counted}
-use Rattle.verify.proofs.Record.counts.Statement.{statement}
-use Rattle.verify.proofs.Record.counts.Tie as tie
+use Rattle.verify_record.specs.Ranges.{counted}
+use Rattle.verify_record.proofs.Record.counts.Statement.{statement}
+use Rattle.verify_record.proofs.Record.counts.Tie as tie
 
 returns : tie.Need-returns
 unfolding counted

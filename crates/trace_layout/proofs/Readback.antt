@@ -7,9 +7,10 @@ use native.Mathlib.Omega.{arith}
 use lib.ListN.{length, take, drop, getD, length-append}
 use lib.Seq.{getD-append-seam, getD-append-add, take-append-seam, drop-append-add, take-suc, split-at}
 use Rattle.rules.proofs.Tests.{never}
 use Rattle.trace.specs.Trace.{header, limit, kind, Said, found, ended, refused, littleEndian, lengthAt, kindAt, readAt}
-use Rattle.trace.specs.Layout.{recordOf, traceOf, placeOf, Listing, onward, readFrom, readAll}
-use Rattle.trace.proofs.Laws.{read-end, read-whole, found-inside}
+use Rattle.trace.proofs.Laws.{read-end, read-whole}
+use Rattle.trace_layout.specs.Layout.{recordOf, traceOf, placeOf, Listing, onward, readFrom, readAll}
+use Rattle.trace_layout.proofs.Inside.{found-inside}
 
 -- two octets give their number back
 two-back : (n : ℕ) → n ≤ limit → littleEndian (n % 256) (n / 256 % 256) ≡ n

@@ -5,11 +5,12 @@ use mathlib.Core.Bool.{Bool, cond, _&&_}
 use mathlib.Core.List.{List, [], _∷_, _++_}
 use Prim.Native.Nat.{ℕ, _+_}
 use lib.Dec.{eqb}
-use Rattle.verify.specs.Verify.{isOff, stepOf}
-use Rattle.verify.specs.declared.Phase.the-variants.{Trying}
-use Rattle.verify.specs.declared.Record.{Record}
+use Rattle.verify_record.specs.Ranges.{isOff}
+use Rattle.verify_record.specs.declared.Phase.the-variants.{Trying}
+use Rattle.verify_record.specs.declared.Record.{Record}
+use Rattle.verify.specs.Verify.{stepOf}
 use Rattle.verify.specs.declared.Event.{Event}
 use Rattle.verify.specs.declared.Event.the-variants.{Enable, Disable, LinkFailed, ResponseHeard, VerifyHeard, ResponseSent, Millisecond}
 
 -- the record after a history
 unfoldable pub recordAfter : Record → List Event → Record

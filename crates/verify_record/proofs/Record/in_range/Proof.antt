@@ -1,9 +1,9 @@
--- `verify::Record::in_range` meets its contract.
+-- `verify_record::Record::in_range` meets its contract.
 -- Assumes nothing.
 use mathlib.Core.Path.{sym, _∙_}
 use borrow.Author.Needs.{needs}
-use Rattle.verify.proofs.Record.in_range.Statement.{statement}
-use Rattle.verify.proofs.Record.in_range.Tie as tie
+use Rattle.verify_record.proofs.Record.in_range.Statement.{statement}
+use Rattle.verify_record.proofs.Record.in_range.Tie as tie
 
 is-trying-requires : tie.Need-is-trying-requires
 is-trying-requires c κs = search needs

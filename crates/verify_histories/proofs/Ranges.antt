@@ -1,0 +1,77 @@
+-- Every event keeps the ranges of a record.
+-- Assumes nothing.
+use mathlib.Core.Path.{_≡_, refl}
+use mathlib.Core.Bool.{true, false}
+use Prim.Native.Nat.{_+_, _-_, _≤_, _<_}
+use native.Mathlib.Decide.{decLt}
+use native.Mathlib.Omega.{arith}
+use borrow.Author.Tests.{leb-true, le-leb}
+use Rattle.rules.proofs.Tests.{both, by-test}
+use Rattle.verify_record.specs.Ranges.{wait, attempts, isOff, isTrying, counted, inRange}
+use Rattle.verify_record.specs.declared.Phase.the-variants.{Failed}
+use Rattle.verify_record.specs.declared.Record.{Record}
+use Rattle.verify.specs.Verify.{Told, takes, rests, tries, oneLess, effect, stepOf}
+use Rattle.verify.specs.declared.Event.{Event}
+use Rattle.verify.specs.declared.Event.the-variants.{Enable, Disable, LinkFailed, ResponseHeard, VerifyHeard, ResponseSent, Millisecond}
+use Rattle.verify.proofs.Laws.{step-taken, waits, tries-again, gives-up}
+
+-- what holds in each case of a millisecond holds of it
+pub by-tick : (P : Told → Type 0) (r : Record)
+    → (1 < r .left → P (takes (tries (r .attempt) (r .left - 1) r) false))
+    → (r .left ≤ 1 → r .attempt < attempts → P (takes (tries (r .attempt + 1) wait r) true))
+    → (r .left ≤ 1 → attempts ≤ r .attempt → P (takes (rests Failed r) false))
+    → P (oneLess r)
+by-tick P r f g h =
+    elim (decLt 1 (r .left)) [
+      | yes a ↦ rw (waits r a) (f a)
+      | no a ↦ elim (decLt (r .attempt) attempts) [
+        | yes b ↦ rw (tries-again r (omega arith) b) (g (omega arith) b)
+        | no b ↦ rw (gives-up r (omega arith) (omega arith)) (h (omega arith) (omega arith))
+      ]
+    ]
+
+-- the ranges in trying
+pub record Running (r : Record) : Type 0 where
+  pub first : 1 ≤ r .attempt
+  pub last : r .attempt ≤ attempts
+  pub some : 1 ≤ r .left
+  pub most : r .left ≤ wait
+
+counted-running : (r : Record) → counted 1 attempts wait r ≡ true → Running r
+unfolding counted
+counted-running r h =
+    let a = both _ _ h in
+    let b = both _ _ (a .1) in
+    let c = both _ _ (b .1) in
+    record { first = leb-true _ _ (a .0); last = leb-true _ _ (b .0); some = leb-true _ _ (c .0); most = leb-true _ _ (c .1) }
+
+running-counted : (r : Record) → Running r → counted 1 attempts wait r ≡ true
+unfolding counted
+running-counted r c = simp (le-leb _ _ (c .first), le-leb _ _ (c .last), le-leb _ _ (c .some), le-leb _ _ (c .most))
+
+pub running : (r : Record) → inRange r ≡ true → isTrying (r .phase) ≡ true → Running r
+running r h t = counted-running r (rw t at h)
+
+-- every event keeps the ranges
+abbrev Ranged : Told → Type 0
+Ranged t = inRange (t .after) ≡ true
+
+pub in-range-kept : (r : Record) (e : Event) → inRange r ≡ true → Ranged (effect e r)
+unfolding counted
+in-range-kept r Enable h = by-test Ranged (isOff (r .phase)) (λ o. refl) (λ o. h)
+in-range-kept r Disable h = refl
+in-range-kept r LinkFailed h = refl
+in-range-kept r ResponseHeard h = by-test Ranged (isTrying (r .phase)) (λ t. refl) (λ t. h)
+in-range-kept r VerifyHeard h = h
+in-range-kept r ResponseSent h = h
+in-range-kept r Millisecond h =
+    by-test Ranged (isTrying (r .phase))
+    (λ t. let c = running r h t in
+    by-tick Ranged r
+    (λ a. running-counted (tries (r .attempt) (r .left - 1) r) (omega arith))
+    (λ a b. running-counted (tries (r .attempt + 1) wait r) (omega arith))
+    (λ a b. refl))
+    (λ t. h)
+
+pub step-in-range : (r : Record) (e : Event) → inRange r ≡ true → inRange (stepOf r e .after) ≡ true
+step-in-range r e h = rw (step-taken r e h) (in-range-kept r e h)
