@@ -19,9 +19,11 @@ use Rattle.sender_answers.specs.Answers.{Outcome, refuse, write, short}
 use Rattle.single.specs.Single.{expressOf, zeros, orderOf}
 use Rattle.mframe.specs.declared.Kind.{Kind}
 use Rattle.mframe.specs.declared.Kind.the-variants.{Express, Verify, Respond}
-use Rattle.send.specs.Preemptable.{refusalOf, partNow, endOf, isDone, mFrame, Step, go, sentOf, unless, preemptableOf}
-use Rattle.send.specs.declared.Record.{Record}
-use Rattle.send.proofs.Laws.{Passed, passed, cut-within}
+use Rattle.sender_record.specs.Refusals.{refusalOf}
+use Rattle.sender_record.specs.declared.Record.{Record}
+use Rattle.sender_record.proofs.Laws.{Passed, passed}
+use Rattle.send.specs.Preemptable.{partNow, endOf, isDone, mFrame, Step, go, sentOf, unless, preemptableOf}
+use Rattle.send.proofs.Laws.{cut-within}
 use Rattle.link.specs.Sender.{Fate, Call, expressCall, preemptableCall, verifyCall, respondCall, MFrame, express, part, order, sends, setting, sending}
 use Rattle.link.specs.Frames.{SameToEnd}
 use Rattle.link.proofs.Flow.{Sender, Whole, Order, verify, respond, Flow}

@@ -14,7 +14,7 @@ use Rattle.mframe.specs.declared.Kind.{Kind}
 use Rattle.mframe.specs.declared.Kind.the-variants.{Express, Verify, Respond}
 use Rattle.mframe.proofs.Laws.{Counted}
 use Rattle.send.specs.Preemptable.{checkOf}
-use Rattle.send.proofs.Whole.{check-length}
+use Rattle.send.proofs.Laws.{check-length}
 use Rattle.receiver_record.specs.declared.Record.{Record}
 use Rattle.receiver_answers.specs.Answers.{says}
 use Rattle.receiver_record.specs.Records.{inRange}

@@ -8,9 +8,9 @@ use Rattle.cut.specs.declared.Ask.{Ask}
 use Rattle.sender_answers.specs.Answers.{Said, wrote, refused}
 use Rattle.single.specs.Single.{expressOf, orderOf}
 use Rattle.mframe.specs.declared.Kind.the-variants.{Verify, Respond}
-use Rattle.send.specs.Record.{freshOf}
+use Rattle.sender_record.specs.Record.{freshOf}
+use Rattle.sender_record.specs.declared.Record.{Record}
 use Rattle.send.specs.Preemptable.{preemptableOf}
-use Rattle.send.specs.declared.Record.{Record}
 
 pub data Fate : Type 0 where
   arrives lost : Fate

@@ -5,7 +5,8 @@ use mathlib.Core.List.{List, [], _∷_}
 use mathlib.Core.Option.{Option, none, some}
 use Prim.Native.Nat.{ℕ}
 use lib.ListN.{length}
-use Rattle.send.specs.Preemptable.{refusalOf, sentOf, unless}
+use Rattle.sender_record.specs.Refusals.{refusalOf}
+use Rattle.send.specs.Preemptable.{sentOf, unless}
 use Rattle.sender_words.specs.Sender.{senderFits, senderOf, askOf}
 use Rattle.sender_words.proofs.Laws.{sender-written}
 use Rattle.seatport.specs.Sending.{told, unfit, sendingOf}

@@ -20,10 +20,11 @@ use Rattle.single.specs.Single.{expressOf, zeros, orderOf}
 use Rattle.mframe.specs.declared.Kind.{Kind}
 use Rattle.mframe.specs.declared.Kind.the-variants.{Express}
 use Rattle.mframe.proofs.Laws.{mframe-length}
-use Rattle.send.specs.Preemptable.{refusalOf, partNow, endOf, isDone, kindOf, checkOf, recordAfter, mFrame, sentOf, unless, preemptableOf}
-use Rattle.send.specs.declared.Record.{Record}
-use Rattle.send.proofs.Laws.{passed, cut-within}
-use Rattle.send.proofs.Whole.{check-length}
+use Rattle.sender_record.specs.Refusals.{refusalOf}
+use Rattle.sender_record.specs.declared.Record.{Record}
+use Rattle.sender_record.proofs.Laws.{passed}
+use Rattle.send.specs.Preemptable.{partNow, endOf, isDone, kindOf, checkOf, recordAfter, mFrame, sentOf, unless, preemptableOf}
+use Rattle.send.proofs.Laws.{check-length, cut-within}
 use Rattle.sender_words.specs.Sender.{Short}
 
 no-second : (a b : Bool) → (a || b) ≡ false → b ≡ false

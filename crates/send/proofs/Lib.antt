@@ -1,4 +1,2 @@
 pub mod Laws
-pub mod Numbered
 pub mod Once
-pub mod Whole

@@ -1,13 +1,10 @@
 -- No second answer meets a promise of this crate.
 -- Assumes nothing.
 use mathlib.Core.Path.{_≡_, sym, _∙_}
-use mathlib.Core.Bool.{Bool}
 use mathlib.Core.List.{List}
 use Prim.Native.Nat.{ℕ}
 use Rattle.sender_answers.proofs.Once.{said-one}
-use Rattle.send.specs.Record.{freshOf}
 use Rattle.send.specs.Preemptable.{Step, Sent}
-use Rattle.send.specs.declared.Record.{Record}
 use Rattle.send.specs.declared.Sending.{Sending}
 
 -- preemptable: no second answer, no other record, and no other octets
@@ -16,7 +13,3 @@ sent-once p out {s} {t} h k =
     let a : s .answer ≡ t .answer = said-one (h .answer ∙ sym (k .answer)) in
     let r : s .after ≡ t .after = h .after ∙ sym (k .after) in
     (λ i. record { answer = a i; after = r i }, h .octets ∙ sym (k .octets))
-
--- fresh
-pub fresh-once : (active hold : Bool) (extra : ℕ) {r q : Record} → r ≡ freshOf active hold extra → q ≡ freshOf active hold extra → r ≡ q
-fresh-once active hold extra p q = p ∙ sym q

@@ -1,3 +1,1 @@
 pub mod Preemptable
-pub mod Record
-pub mod Whole

@@ -1,6 +1,6 @@
 -- The preemptable call (document 01, "Sending"): what it answers, the record after it, and what it writes. Assumes nothing.
 use mathlib.Core.Path.{_≡_}
-use mathlib.Core.Bool.{Bool, true, false, cond, not}
+use mathlib.Core.Bool.{Bool, true, false, cond}
 use mathlib.Core.List.{List, []}
 use mathlib.Core.Option.{Option, none, some}
 use Prim.Native.Nat.{ℕ, _+_, _-_, _≤_}
@@ -16,33 +16,13 @@ use Rattle.cut.specs.declared.Ask.{Ask}
 use Rattle.cut.specs.declared.Part.{Part}
 use Rattle.cut.specs.declared.Part.the-variants.{Whole, Cut}
 use Rattle.mframe.specs.Octets.{mFrameOf}
-use Rattle.sender_answers.specs.Answers.{Said, wrote, refused, number, said, short, outside}
+use Rattle.sender_answers.specs.Answers.{Said, wrote, refused, said}
 use Rattle.mframe.specs.declared.Kind.{Kind}
 use Rattle.mframe.specs.declared.Kind.the-variants.{Express, Start, Continuation}
-use Rattle.send.specs.Record.{inRange, differs, held}
-use Rattle.send.specs.declared.Record.{Record}
+use Rattle.sender_record.specs.Refusals.{refusalOf}
+use Rattle.sender_record.specs.declared.Record.{Record}
 use Rattle.send.specs.declared.Sending.{Sending}
-use Rattle.send.specs.declared.part.Ruling.{Ruling}
-use Rattle.send.specs.declared.part.Ruling.the-variants.{Go, Stop}
 use Rattle.send.specs.declared.part.End.{End}
-
--- the table's refusals in its order, by whether each applies
-abbrev pub firstOf : (b30 b31 b32 b33 b34 : Bool) → Option ℕ
-firstOf true b31 b32 b33 b34 = some 30
-firstOf false true b32 b33 b34 = some 31
-firstOf false false true b33 b34 = some 32
-firstOf false false false true b34 = some 33
-firstOf false false false false true = some 34
-firstOf false false false false false = none
-
--- the one that a body of n octets and a buffer of room octets get
-unfoldable pub refusalOf : Record → ℕ → ℕ → Option ℕ
-refusalOf r n room = firstOf (short room) (not (inRange r)) (outside n) (differs r n) (held r)
-
--- the code's ruling, in these terms
-abbrev pub ruled : Ruling → Option ℕ
-ruled Go = none
-ruled (Stop refusal) = some (number refusal)
 
 -- the part that goes now of a body of n octets: L is body plus 4; where the port is not active, "ask and hold are ignored" and all goes
 unfoldable pub partNow : Record → ℕ → Ask → Part

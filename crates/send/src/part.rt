@@ -1,130 +1,17 @@
-// The next part of a preemptable frame: its tests, where it ends, its kind, the record after it.
-use crate::Record;
+// The next part of a preemptable frame: where it ends, its kind, its check octets, the record after it.
 use crate::Sending;
 use codes::FragmentCount;
 use codes::FrameCount;
 use cut::Ask;
 use cut::Part;
-use mframe::BODY_LEAST;
-use mframe::BODY_MOST;
 use mframe::CHECK;
 use mframe::Kind;
-use mframe::OUTPUT_LEAST;
 use sender_answers::Answer;
-use sender_answers::Refusal;
+use sender_record::Record;
 ghost use mathlib.Core.Path.{_≡_};
 ghost use Prim.Native.Nat.{_+_, _≤_};
 ghost use lib.ListN.{length};
-ghost use Rattle.send.specs.Record.{idle, going, inRange, differs, held};
-ghost use Rattle.send.specs.Preemptable.{Sent, ruled, refusalOf, partNow, Ends, kindOf, checkOf, frameAfter, fragmentAfter, recordAfter, sentOf};
-
-// A frame in progress has sent so many octets at least, and has as many left.
-const PART_LEAST: usize = 60;
-
-// Whether no frame is in progress: all three 0.
-pub(crate) fn is_idle(r: Record) -> bool
-    ensures { λ b. ⌜ b ≡ idle r ⌝ }
-{
-    let fragment = r.fragment;
-    let count = fragment.0;
-    if r.length == 0 {
-        if r.sent == 0 {
-            return count == 0;
-        }
-        return false;
-    }
-    false
-}
-
-// Whether the fields of a frame in progress are in range.
-pub(crate) fn is_going(r: Record) -> bool
-    ensures { λ b. ⌜ b ≡ going r ⌝ }
-{
-    let fragment = r.fragment;
-    let count = fragment.0;
-    if r.length < BODY_LEAST {
-        return false;
-    }
-    if BODY_MOST < r.length {
-        return false;
-    }
-    if r.sent < PART_LEAST {
-        return false;
-    }
-    if r.length - PART_LEAST < r.sent {
-        return false;
-    }
-    count <= 3
-}
-
-pub(crate) fn in_range(r: Record) -> bool
-    ensures { λ b. ⌜ b ≡ inRange r ⌝ }
-{
-    let next = r.next;
-    let count = next.0;
-    if 3 < r.extra {
-        return false;
-    }
-    if 3 < count {
-        return false;
-    }
-    if is_idle(r) {
-        return true;
-    }
-    is_going(r)
-}
-
-pub(crate) fn other_length(r: Record, n: usize) -> bool
-    ensures { λ b. ⌜ b ≡ differs r n ⌝ }
-{
-    if r.length == 0 {
-        return false;
-    }
-    if r.length == n {
-        return false;
-    }
-    true
-}
-
-pub(crate) fn is_held(r: Record) -> bool
-    ensures { λ b. ⌜ b ≡ held r ⌝ }
-{
-    if r.active {
-        return r.hold;
-    }
-    false
-}
-
-// Whether the call goes on.
-pub(crate) enum Ruling {
-    Go,
-    Stop(Refusal),
-}
-
-// The table of refusals, in its order, for a body of n octets and a buffer of so many.
-pub(crate) fn rule(r: Record, n: usize, room: usize) -> Ruling
-    ensures { λ v. ⌜ ruled v ≡ refusalOf r n room ⌝ }
-{
-    if room < OUTPUT_LEAST {
-        return Ruling::Stop(Refusal::Output);
-    }
-    if in_range(r) {
-        if n < BODY_LEAST {
-            return Ruling::Stop(Refusal::Body);
-        }
-        if BODY_MOST < n {
-            return Ruling::Stop(Refusal::Body);
-        }
-        if other_length(r, n) {
-            return Ruling::Stop(Refusal::Length);
-        }
-        if is_held(r) {
-            return Ruling::Stop(Refusal::Hold);
-        }
-        return Ruling::Go;
-    }
-    Ruling::Stop(Refusal::Record)
-}
+ghost use Rattle.send.specs.Preemptable.{Sent, partNow, Ends, kindOf, checkOf, frameAfter, fragmentAfter, recordAfter, sentOf};
 
 // Where this part ends in the body, and whether that is the frame's end.
 pub(crate) struct End {

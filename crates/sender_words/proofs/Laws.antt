@@ -5,7 +5,7 @@ use mathlib.Core.Bool.{true}
 use mathlib.Core.List.{List, [], _∷_}
 use Prim.Native.Nat.{ℕ, _≤_}
 use borrow.Author.Tests.{leb-true}
-use Rattle.send.specs.declared.Record.{Record}
+use Rattle.sender_record.specs.declared.Record.{Record}
 use Rattle.words.specs.Words.{word, isFlag, isCount}
 use Rattle.words.proofs.Laws.{flag-read, flag-written}
 use Rattle.sender_words.specs.Sender.{senderWords, senderFits, senderOf}

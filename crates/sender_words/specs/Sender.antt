@@ -8,7 +8,7 @@ use Rattle.codes.specs.Codes.{frame, fragment}
 use Rattle.cut.specs.declared.Ask.{Ask}
 use Rattle.cut.specs.declared.Ask.the-variants.{None, At}
 use Rattle.sender_answers.specs.Answers.{Said, wrote, refused}
-use Rattle.send.specs.declared.Record.{Record}
+use Rattle.sender_record.specs.declared.Record.{Record}
 use Rattle.words.specs.Words.{flag, word, isFlag, flagAt, isCount}
 
 -- 0 where an mFrame was written, else the refusal's number

@@ -2,8 +2,8 @@
 use codes::FragmentCount;
 use codes::FrameCount;
 use cut::Ask;
-use send::Record;
 use sender_answers::Answer;
+use sender_record::Record;
 ghost use mathlib.Core.Path.{_≡_};
 ghost use mathlib.Core.Bool.{true};
 ghost use Prim.Native.Nat.{_<_, _^_};

@@ -14,7 +14,7 @@ use test_questions::went::Went;
 // written.
 struct Link {
     x: u32,
-    sender: send::Record,
+    sender: sender_record::Record,
     receiver: receiver_record::Record,
     seed: u32,
     length: usize,
@@ -227,7 +227,7 @@ fn entry() -> Went {
     };
     let first = Link {
         x: read::word(&head, 0),
-        sender: send::Record::fresh(true, false, 0),
+        sender: sender_record::Record::fresh(true, false, 0),
         receiver: receiver_record::Record::fresh(),
         seed: 0,
         length: 0,

@@ -3,8 +3,8 @@
 use codes::FragmentCount;
 use codes::FrameCount;
 use cut::Ask;
-use send::Record;
 use sender_answers::Answer;
+use sender_record::Record;
 use test_questions::read;
 use test_questions::read::Came;
 use test_questions::say;

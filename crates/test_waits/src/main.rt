@@ -2,8 +2,8 @@
 // of the README is drawn from what this prints.
 use cut::Ask;
 use cut::Part;
-use send::Record;
 use sender_answers::Answer;
+use sender_record::Record;
 use test_questions::say;
 use test_questions::went::Went;
 

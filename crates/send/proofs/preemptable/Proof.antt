@@ -3,8 +3,8 @@
 use mathlib.Core.Path.{refl, sym, ap, _∙_}
 use native.Mathlib.Omega.{arith}
 use borrow.Author.Needs.{needs}
-use Rattle.send.specs.Preemptable.{ruled}
-use Rattle.send.proofs.Laws.{passed}
+use Rattle.sender_record.specs.Refusals.{ruled}
+use Rattle.sender_record.proofs.Laws.{passed}
 use Rattle.send.proofs.preemptable.Statement.{statement}
 use Rattle.send.proofs.preemptable.Tie as tie
 

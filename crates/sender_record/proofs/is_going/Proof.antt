@@ -1,11 +1,11 @@
--- `send::part::is_going` meets its contract.
+-- `sender_record::is_going` meets its contract.
 -- Assumes nothing.
 use Prim.Native.Nat.{_+_, _≤_, _<_}
 use native.Mathlib.Omega.{arith}
-use Rattle.send.specs.Record.{going}
+use Rattle.sender_record.specs.Record.{going}
 use Rattle.rules.proofs.Tests.{tests}
-use Rattle.send.proofs.part.is_going.Statement.{statement}
-use Rattle.send.proofs.part.is_going.Tie as tie
+use Rattle.sender_record.proofs.is_going.Statement.{statement}
+use Rattle.sender_record.proofs.is_going.Tie as tie
 
 returns : tie.Need-returns
 unfolding going

@@ -3,7 +3,7 @@ use mathlib.Core.Bool.{Bool, _&&_, _||_, not}
 use Prim.Native.Nat.{ℕ, _+_}
 use lib.Dec.{eqb, leb}
 use Rattle.codes.specs.Codes.{frame, fragment}
-use Rattle.send.specs.declared.Record.{Record}
+use Rattle.sender_record.specs.declared.Record.{Record}
 
 -- "Fresh means both counts 0 and no frame in progress"
 abbrev pub freshOf : Bool → Bool → ℕ → Record

@@ -23,11 +23,13 @@ use Rattle.mframe.specs.declared.Kind.{Kind}
 use Rattle.mframe.specs.declared.Kind.the-variants.{Express, Start, Continuation}
 use Rattle.mframe.proofs.Laws.{Counted}
 use Rattle.heads.proofs.Laws.{head-read}
-use Rattle.send.specs.Preemptable.{refusalOf, partNow, endOf, isDone, kindOf, checkOf, frameAfter, fragmentAfter, recordAfter, mFrame, go, sentOf, unless}
-use Rattle.send.specs.Whole.{Call, setting, AllActive, Written, written, continuations, frameKinds}
-use Rattle.send.specs.declared.Record.{Record}
-use Rattle.send.proofs.Laws.{Range, Idle, Going, Passed, passed, cut-within}
-use Rattle.send.proofs.Whole.{check-length, from}
+use Rattle.sender_record.specs.Refusals.{refusalOf}
+use Rattle.sender_record.specs.declared.Record.{Record}
+use Rattle.sender_record.proofs.Laws.{Range, Idle, Going, Passed, passed}
+use Rattle.send.specs.Preemptable.{partNow, endOf, isDone, kindOf, checkOf, frameAfter, fragmentAfter, recordAfter, mFrame, go, sentOf, unless}
+use Rattle.send.proofs.Laws.{check-length, cut-within}
+use Rattle.send_histories.specs.Whole.{Call, setting, AllActive, Written, written, continuations, frameKinds}
+use Rattle.send_histories.proofs.Whole.{from}
 
 -- the counts that a record in range gives its mFrame are under 4
 fragment-under : (r : Record) → Range r → r .fragment .0 < 4

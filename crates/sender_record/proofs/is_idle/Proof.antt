@@ -1,9 +1,9 @@
--- `send::part::is_idle` meets its contract.
+-- `sender_record::is_idle` meets its contract.
 -- Assumes nothing.
-use Rattle.send.specs.Record.{idle}
+use Rattle.sender_record.specs.Record.{idle}
 use Rattle.rules.proofs.Tests.{tests}
-use Rattle.send.proofs.part.is_idle.Statement.{statement}
-use Rattle.send.proofs.part.is_idle.Tie as tie
+use Rattle.sender_record.proofs.is_idle.Statement.{statement}
+use Rattle.sender_record.proofs.is_idle.Tie as tie
 
 returns : tie.Need-returns
 unfolding idle

@@ -1,10 +1,10 @@
--- `send::part::rule` meets its contract.
+-- `sender_record::rule` meets its contract.
 -- Assumes nothing.
-use Rattle.send.specs.Preemptable.{refusalOf}
+use Rattle.sender_record.specs.Refusals.{refusalOf}
 use Rattle.rules.proofs.Tests.{tests}
 use borrow.Author.Needs.{needs}
-use Rattle.send.proofs.part.rule.Statement.{statement}
-use Rattle.send.proofs.part.rule.Tie as tie
+use Rattle.sender_record.proofs.rule.Statement.{statement}
+use Rattle.sender_record.proofs.rule.Tie as tie
 
 returns : tie.Need-returns
 unfolding refusalOf

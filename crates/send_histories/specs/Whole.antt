@@ -11,8 +11,8 @@ use Rattle.cut.specs.declared.Ask.{Ask}
 use Rattle.sender_answers.specs.Answers.{Said, wrote, refused}
 use Rattle.mframe.specs.declared.Kind.{Kind}
 use Rattle.mframe.specs.declared.Kind.the-variants.{Start, Continuation}
 use Rattle.send.specs.Preemptable.{preemptableOf}
-use Rattle.send.specs.declared.Record.{Record}
+use Rattle.sender_record.specs.declared.Record.{Record}
 
 -- a call: the settings as the caller then has them, the ask, and the buffer's length
 pub record Call : Type 0 where

@@ -1,4 +1,4 @@
--- What calls over one body send, taken together, is the body; and its mFrames carry S, then C with fragment counts 0, 1, 2, 3, 0 ..
+-- What calls over one body send, taken together, is the body.
 -- Assumes nothing.
 use mathlib.Core.Path.{_≡_, refl, sym, ap, ap₂, _∙_}
 use mathlib.Core.Bool.{Bool, true, false, false≢true}
@@ -9,19 +9,16 @@ use native.Mathlib.Omega.{arith}
 use lib.ListN.{length, take, drop, length-drop, take-append-drop}
 use lib.Seq.{take-at, drop-at, take-all, drop-drop}
 use Rattle.crc.specs.Crc.{allOnes, registerOver}
-use Rattle.crc.proofs.Laws.{fcs-length, mcrc-length}
 use Rattle.mframe.specs.Octets.{headerOf, mFrameOf}
 use Rattle.mframe.specs.declared.Kind.{Kind}
 use Rattle.mframe.proofs.Laws.{header-length, mframe-length}
 use Rattle.cut.specs.declared.Part.{Part}
 use Rattle.cut.specs.declared.Part.the-variants.{Whole, Cut}
-use Rattle.send.specs.Preemptable.{Step, refusalOf, partNow, endOf, isDone, kindOf, checkOf, recordAfter, mFrame, go, sentOf, unless}
-use Rattle.send.specs.Whole.{Call, setting, Written, after, written, dataIn, joined}
-use Rattle.send.specs.declared.Record.{Record}
-
-pub check-length : (register : ℕ) (done : Bool) → length (checkOf register done) ≡ 4
-check-length register true = fcs-length register
-check-length register false = mcrc-length register
+use Rattle.sender_record.specs.Refusals.{refusalOf}
+use Rattle.sender_record.specs.declared.Record.{Record}
+use Rattle.send.specs.Preemptable.{Step, partNow, endOf, isDone, kindOf, checkOf, recordAfter, mFrame, go, sentOf, unless}
+use Rattle.send.proofs.Laws.{check-length}
+use Rattle.send_histories.specs.Whole.{Call, setting, Written, after, written, dataIn, joined}
 
 -- the data that an mFrame carries
 data-in : (kind : Kind) (part check : List ℕ) → length check ≡ 4 → dataIn (mFrameOf kind part check) ≡ part

@@ -1,9 +1,9 @@
--- `send::part::other_length` meets its contract.
+-- `sender_record::other_length` meets its contract.
 -- Assumes nothing.
-use Rattle.send.specs.Record.{differs}
+use Rattle.sender_record.specs.Record.{differs}
 use Rattle.rules.proofs.Tests.{tests}
-use Rattle.send.proofs.part.other_length.Statement.{statement}
-use Rattle.send.proofs.part.other_length.Tie as tie
+use Rattle.sender_record.proofs.other_length.Statement.{statement}
+use Rattle.sender_record.proofs.other_length.Tie as tie
 
 returns : tie.Need-returns
 unfolding differs

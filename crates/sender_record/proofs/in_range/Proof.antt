@@ -1,10 +1,10 @@
--- `send::part::in_range` meets its contract.
+-- `sender_record::in_range` meets its contract.
 -- Assumes nothing.
-use Rattle.send.specs.Record.{inRange}
+use Rattle.sender_record.specs.Record.{inRange}
 use Rattle.rules.proofs.Tests.{tests}
 use borrow.Author.Needs.{needs}
-use Rattle.send.proofs.part.in_range.Statement.{statement}
-use Rattle.send.proofs.part.in_range.Tie as tie
+use Rattle.sender_record.proofs.in_range.Statement.{statement}
+use Rattle.sender_record.proofs.in_range.Tie as tie
 
 returns : tie.Need-returns
 unfolding inRange
