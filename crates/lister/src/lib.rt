@@ -119,7 +119,7 @@ fn stop(s: Standing, refusal: u64, out: &mut [u8]) -> Turn
     let Space::At(at) = place_for_line(out, s.waiting) else {
         return Turn::Failed;
     };
-    let next = listing::stop_line(s.number, refusal, out, at);
+    let next = lines::stop_line(s.number, refusal, out, at);
     Turn::Over(Standing { waiting: next, ..s })
 }
 
@@ -166,7 +166,7 @@ fn finish(s: Standing, out: &mut [u8])
     if let Space::At(at) = place_for_line(out, s.waiting) {
         let r = s.record;
         let c = r.counters;
-        let next = listing::end_line(
+        let next = lines::end_line(
             c.errors as u64,
             c.delimiters as u64,
             c.assembled as u64,
@@ -206,7 +206,7 @@ fn begin(out: &mut [u8]) -> Standing
         from: 0,
         to: 0,
         ended: false,
-        waiting: listing::title(out, 0),
+        waiting: lines::title(out, 0),
     }
 }
 

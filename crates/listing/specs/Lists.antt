@@ -8,7 +8,7 @@ use Rattle.text.specs.Text.{Put}
 use Rattle.receiver_answers.specs.Answers.{Said}
 use Rattle.receiver_record.specs.declared.Record.{Record}
 use Rattle.receive.specs.Receive.{receivedOf, bufferOf}
-use Rattle.listing.specs.Lines.{recordLine}
+use Rattle.lines.specs.Lines.{recordLine}
 use Rattle.listing.specs.declared.Listed.{Listed}
 
 -- the line of a numbered record with an answer

@@ -1,4 +1,4 @@
-// The receiving record as words of 32 bits.
+// The receiving record (`struct seatport_receiver` in C) as words of 32 bits.
 use codes::FragmentCount;
 use codes::FrameCount;
 use receiver_record::Counters;
@@ -41,6 +41,7 @@ pub fn receiver_of(words: [u32; 9]) -> Record
     }
 }
 
+// The nine words of a record.
 pub fn receiver_words(record: Record) -> [u32; 9]
     requires { ⌜ «record» .kept < 2 ^ 32 ⌝ }
     ensures { λ r. ⌜ r ≡ receiverWords «record» ⌝ }

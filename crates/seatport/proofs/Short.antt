@@ -1,7 +1,7 @@
 -- What the sending calls answer and hand back fits words of 32 bits.
 -- Assumes nothing.
-use mathlib.Core.Path.{_≡_, refl, sym}
-use mathlib.Core.Bool.{Bool, true, false, cond, _||_, false≢true}
+use mathlib.Core.Path.{_≡_, refl}
+use mathlib.Core.Bool.{Bool, true, false, cond}
 use mathlib.Core.List.{List}
 use mathlib.Core.Option.{Option, none, some}
 use Prim.Native.Nat.{ℕ, _+_, _-_, _≤_, _<_, _^_}
@@ -26,10 +26,7 @@ use Rattle.sender_record.proofs.Laws.{passed}
 use Rattle.send.specs.Preemptable.{partNow, endOf, isDone, kindOf, checkOf, recordAfter, mFrame, sentOf, unless, preemptableOf}
 use Rattle.send.proofs.Laws.{check-length, cut-within}
 use Rattle.sender_words.specs.Sender.{Short}
-
-no-second : (a b : Bool) → (a || b) ≡ false → b ≡ false
-no-second true b e = absurd (false≢true (sym e))
-no-second false b e = e
+use Rattle.rules.proofs.Tests.{neither}
 
 pub express-short : (body : List ℕ) (room : ℕ) → Short (expressOf body room .said)
 unfolding expressOf
@@ -39,7 +36,7 @@ express-short body room = by (short room) (outside (length body)) refl
     by true b e = tt
     by false true e = tt
     by false false e =
-        let most = ltb-false 1518 (length body) (no-second (ltb (length body) 60) (ltb 1518 (length body)) e) in
+        let most = ltb-false 1518 (length body) (neither (ltb (length body) 60) (ltb 1518 (length body)) e .1) in
         omega (arith, most, mframe-length Express body (fcsOf (registerOver allOnes body)), fcs-length (registerOver allOnes body))
 
 pub order-short : (kind : Kind) (room : ℕ) → Short (orderOf kind room .said)

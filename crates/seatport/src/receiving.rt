@@ -2,7 +2,6 @@
 use mframe::BODY_MOST;
 use mframe::CHECK;
 ghost use mathlib.Core.Path.{_≡_};
-ghost use Prim.Native.Nat.{_<_};
 ghost use Rattle.seatport.specs.Receiving.{receivingOf, Received, partOf};
 
 #[no_mangle]

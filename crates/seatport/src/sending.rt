@@ -1,6 +1,5 @@
 // The sending calls.
 use mframe::OUTPUT_LEAST;
-ghost use Prim.Native.Nat.{_<_};
 ghost use lib.ListN.{length};
 ghost use Rattle.single.specs.Single.{expressOf, orderOf};
 ghost use Rattle.mframe.specs.declared.Kind.the-variants as Kinds;

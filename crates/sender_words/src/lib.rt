@@ -1,4 +1,4 @@
-// The sending record and what a sending call answers, as words of 32 bits.
+// The sending record (`struct seatport_sender` in C), an ask and what a sending call answers, as words of 32 bits.
 use codes::FragmentCount;
 use codes::FrameCount;
 use cut::Ask;
@@ -69,6 +69,7 @@ pub fn sender_of(words: [u32; 7]) -> Record
     }
 }
 
+// The seven words of a record.
 pub fn sender_words(record: Record) -> [u32; 7]
     requires { ⌜ («record» .length < 2 ^ 32) × («record» .sent < 2 ^ 32) ⌝ }
     ensures { λ r. ⌜ r ≡ senderWords «record» ⌝ }
@@ -86,6 +87,7 @@ pub fn sender_words(record: Record) -> [u32; 7]
     ]
 }
 
+// The ask that a number of 64 bits is.
 pub fn ask_of(ask: usize) -> Ask
     ensures { λ r. ⌜ r ≡ askOf ask ⌝ }
 {

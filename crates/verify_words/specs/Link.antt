@@ -1,4 +1,4 @@
--- The verification record and its events as words of 32 bits.
+-- The verification record, which C calls a link, and its events as words of 32 bits.
 -- Assumes nothing.
 use mathlib.Core.Bool.{Bool, cond, _&&_}
 use mathlib.Core.List.{List, [], _∷_}

@@ -1,16 +1,16 @@
-// The verification record, its events and what it answers, as words of 32 bits.
+// The verification record (`struct seatport_link` in C), its events and what it answers, as words of 32 bits.
 use verify::Answer;
 use verify::Event;
 use verify_record::Phase;
 use verify_record::Record;
 ghost use mathlib.Core.Path.{_≡_};
 ghost use Prim.Native.Nat.{_≤_};
-ghost use lib.ListN.{getD};
 ghost use Rattle.verify.specs.Verify.{said};
-ghost use Rattle.words.specs.Words.{flag};
+ghost use Rattle.words.specs.Words.{flag, word};
 ghost use Rattle.verify_words.specs.Link.{phaseNumber, phaseOf, eventOf, linkWords, linkFits, linkOf};
 
-pub fn phase_number(phase: Phase) -> u32
+// A phase by its number, both ways.
+fn phase_number(phase: Phase) -> u32
     ensures { λ r. ⌜ r ≡ phaseNumber phase ⌝ }
 {
     match phase {
@@ -21,7 +21,7 @@ pub fn phase_number(phase: Phase) -> u32
     }
 }
 
-pub fn phase_of(n: u32) -> Phase
+fn phase_of(n: u32) -> Phase
     ensures { λ r. ⌜ r ≡ phaseOf n ⌝ }
 {
     match n {
@@ -32,6 +32,7 @@ pub fn phase_of(n: u32) -> Phase
     }
 }
 
+// The event that a number is.
 pub fn event_of(n: u32) -> Event
     ensures { λ r. ⌜ r ≡ eventOf n ⌝ }
 {
@@ -67,7 +68,7 @@ pub fn link_fits(words: [u32; 4], event: u32) -> bool
 
 // The record that they then are.
 pub fn link_of(words: [u32; 4]) -> Record
-    requires { ⌜ (getD words 1 0 ≤ 255) × (getD words 2 0 ≤ 255) ⌝ }
+    requires { ⌜ (word words 1 ≤ 255) × (word words 2 ≤ 255) ⌝ }
     ensures { λ r. ⌜ r ≡ linkOf words ⌝ }
 {
     let phase = phase_of(words[0]);
@@ -79,6 +80,7 @@ pub fn link_of(words: [u32; 4]) -> Record
     }
 }
 
+// The four words of a record.
 pub fn link_words(record: Record) -> [u32; 4]
     ensures { λ r. ⌜ r ≡ linkWords «record» ⌝ }
 {
@@ -91,6 +93,7 @@ pub fn link_words(record: Record) -> [u32; 4]
     ]
 }
 
+// The number that is returned.
 pub fn number_of(answer: Answer) -> u32
     ensures { λ r. ⌜ r ≡ said answer .number ⌝ }
 {
@@ -100,6 +103,7 @@ pub fn number_of(answer: Answer) -> u32
     }
 }
 
+// Whether a V is ordered, as a flag.
 pub fn ordered_of(answer: Answer) -> u32
     ensures { λ r. ⌜ r ≡ flag (said answer .ordered) ⌝ }
 {

@@ -1,4 +1,4 @@
--- A flag and its word say the same.
+-- A flag and its word say the same, both ways.
 -- Assumes nothing.
 use mathlib.Core.Path.{_≡_, refl}
 use mathlib.Core.Bool.{Bool, true, false}

@@ -1,4 +1,4 @@
--- What records and numbers look like from C: a record is so many words of 32 bits, in document 01's order, a flag is 0 or 1.
+-- What all records share that C sees as words of 32 bits: a flag is 0 or 1, a count has eight bits, and the word at a place.
 -- Assumes nothing.
 use mathlib.Core.Bool.{Bool, true, false}
 use mathlib.Core.List.{List}

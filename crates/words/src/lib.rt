@@ -1,8 +1,9 @@
-// Numbers and flags as words of 32 bits.
+// A flag as a word of 32 bits and a word as a length, for all records that C sees as words.
 ghost use mathlib.Core.Path.{_≡_};
 ghost use Prim.Native.Nat.{_<_, _^_};
 ghost use Rattle.words.specs.Words.{flag};
 
+// A flag: 1 where it is set, else 0.
 pub fn flag(x: bool) -> u32
     ensures { λ r. ⌜ r ≡ flag x ⌝ }
 {

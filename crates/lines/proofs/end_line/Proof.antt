@@ -1,11 +1,11 @@
--- `listing::end_line` meets its contract.
+-- `lines::end_line` meets its contract.
 -- Assumes nothing.
 use native.Mathlib.Omega.{arith}
 use borrow.Author.Needs.{needs}
-use Rattle.listing.proofs.Laws.{pair-length}
+use Rattle.lines.proofs.Laws.{pair-length}
 use Rattle.text.proofs.Laws.{put-put, digits-length}
-use Rattle.listing.proofs.end_line.Statement.{statement}
-use Rattle.listing.proofs.end_line.Tie as tie
+use Rattle.lines.proofs.end_line.Statement.{statement}
+use Rattle.lines.proofs.end_line.Tie as tie
 
 slice-aggregate-words : tie.Need-slice-aggregate-words
 slice-aggregate-words c = search needs

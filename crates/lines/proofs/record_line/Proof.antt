@@ -1,11 +1,11 @@
--- `listing::record_line` meets its contract.
+-- `lines::record_line` meets its contract.
 -- Assumes nothing.
 use native.Mathlib.Omega.{arith}
 use borrow.Author.Needs.{needs}
-use Rattle.listing.proofs.Laws.{pair-length}
+use Rattle.lines.proofs.Laws.{pair-length}
 use Rattle.text.proofs.Laws.{put-put, digits-length}
-use Rattle.listing.proofs.record_line.Statement.{statement}
-use Rattle.listing.proofs.record_line.Tie as tie
+use Rattle.lines.proofs.record_line.Statement.{statement}
+use Rattle.lines.proofs.record_line.Tie as tie
 
 number-requires : tie.Need-number-requires
 number-requires c κs = search needs

@@ -1,10 +1,10 @@
--- `listing::pair` meets its contract.
+-- `lines::pair` meets its contract.
 -- Assumes nothing.
 use native.Mathlib.Omega.{arith}
 use borrow.Author.Needs.{needs}
 use Rattle.text.proofs.Laws.{put-put, digits-length}
-use Rattle.listing.proofs.pair.Statement.{statement}
-use Rattle.listing.proofs.pair.Tie as tie
+use Rattle.lines.proofs.pair.Statement.{statement}
+use Rattle.lines.proofs.pair.Tie as tie
 
 next-number-requires : tie.Need-next-number-requires
 next-number-requires c κs = search needs
