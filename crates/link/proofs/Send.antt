@@ -16,7 +16,8 @@ use Rattle.mframe.specs.declared.Kind.{Kind}
 use Rattle.mframe.specs.declared.Kind.the-variants.{Continuation}
 use Rattle.mframe.proofs.Laws.{Counted}
 use Rattle.sender_record.specs.declared.Record.{Record}
-use Rattle.send.specs.Preemptable.{kindOf, checkOf, frameAfter, fragmentAfter, recordAfter, mFrame}
+use Rattle.sender_part.specs.Parts.{kindOf}
+use Rattle.send.specs.Preemptable.{checkOf, frameAfter, fragmentAfter, recordAfter, mFrame}
 use Rattle.link.specs.Sender.{setting}
 use Rattle.link.specs.Frames.{Same, progress}
 use Rattle.link.proofs.Flow.{Sender, idle, busy, sofar, kindFrom, onward, Emits}

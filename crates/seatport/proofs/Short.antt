@@ -23,8 +23,10 @@ use Rattle.mframe.proofs.Laws.{mframe-length}
 use Rattle.sender_record.specs.Refusals.{refusalOf}
 use Rattle.sender_record.specs.declared.Record.{Record}
 use Rattle.sender_record.proofs.Laws.{passed}
-use Rattle.send.specs.Preemptable.{partNow, endOf, isDone, kindOf, checkOf, recordAfter, mFrame, sentOf, unless, preemptableOf}
-use Rattle.send.proofs.Laws.{check-length, cut-within}
+use Rattle.sender_part.specs.Parts.{partNow, endOf, isDone, kindOf}
+use Rattle.send.specs.Preemptable.{checkOf, recordAfter, mFrame, sentOf, unless, preemptableOf}
+use Rattle.sender_part.proofs.Laws.{cut-within}
+use Rattle.send.proofs.Laws.{check-length}
 use Rattle.sender_words.specs.Sender.{Short}
 use Rattle.rules.proofs.Tests.{neither}
 

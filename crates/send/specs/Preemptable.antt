@@ -3,45 +3,21 @@ use mathlib.Core.Path.{_≡_}
 use mathlib.Core.Bool.{Bool, true, false, cond}
 use mathlib.Core.List.{List, []}
 use mathlib.Core.Option.{Option, none, some}
-use Prim.Native.Nat.{ℕ, _+_, _-_, _≤_}
+use Prim.Native.Nat.{ℕ, _-_}
 use lib.Dec.{eqb}
 use lib.ListN.{length, take, drop}
 use Rattle.octets.specs.Laid.{over}
 use Rattle.crc.specs.Crc.{allOnes, registerOver, fcsOf, mcrcOf}
-use Rattle.codes.specs.Codes.{fragment, nextFrame, lastFrame, nextFragment}
+use Rattle.codes.specs.Codes.{fragment, nextFrame, nextFragment}
 use Rattle.codes.specs.declared.FrameCount.{FrameCount}
 use Rattle.codes.specs.declared.FragmentCount.{FragmentCount}
-use Rattle.cut.specs.Cut.{minimum, partOf}
 use Rattle.cut.specs.declared.Ask.{Ask}
-use Rattle.cut.specs.declared.Part.{Part}
-use Rattle.cut.specs.declared.Part.the-variants.{Whole, Cut}
 use Rattle.mframe.specs.Octets.{mFrameOf}
 use Rattle.sender_answers.specs.Answers.{Said, wrote, refused, said}
-use Rattle.mframe.specs.declared.Kind.{Kind}
-use Rattle.mframe.specs.declared.Kind.the-variants.{Express, Start, Continuation}
 use Rattle.sender_record.specs.Refusals.{refusalOf}
 use Rattle.sender_record.specs.declared.Record.{Record}
+use Rattle.sender_part.specs.Parts.{partNow, endOf, isDone, kindOf}
 use Rattle.send.specs.declared.Sending.{Sending}
-use Rattle.send.specs.declared.part.End.{End}
-
--- the part that goes now of a body of n octets: L is body plus 4; where the port is not active, "ask and hold are ignored" and all goes
-unfoldable pub partNow : Record → ℕ → Ask → Part
-partNow r n ask = cond (r .active) (partOf (n + 4) (r .sent) (minimum (r .extra)) ask) Whole
-
--- the octets sent after that, of n with s sent before; whether the frame is done
-abbrev pub endOf : ℕ → ℕ → Part → ℕ
-endOf s n Whole = n
-endOf s n (Cut k) = s + k
-
-abbrev pub isDone : Part → Bool
-isDone Whole = true
-isDone (Cut k) = false
-
--- "a frame not yet begun goes whole with delimiter E" where the port is not active, else with S; "one in progress runs .. as a
--- continuation", which "carries the count before" the next one
-unfoldable pub kindOf : Record → Kind
-kindOf r =
-    cond (eqb (r .length) 0) (cond (r .active) (Start (r .next)) Express) (Continuation (lastFrame (r .next)) (r .fragment))
 
 -- the frame's FCS where it is done, else its mCRC
 abbrev pub checkOf : ℕ → Bool → List ℕ
@@ -98,10 +74,3 @@ pub record Sent (p : Step) (out : List ℕ) (s : Sending) (out′ : List ℕ) : 
   pub answer : said (s .answer) ≡ p .said
   pub after : s .after ≡ p .after
   pub octets : out′ ≡ over (p .octets) out
-
--- where a part ends, and that this lies in the body
-pub record Ends (r : Record) (n : ℕ) (p : Part) (e : End) : Type 0 where
-  pub end : e .to ≡ endOf (r .sent) n p
-  pub done : e .done ≡ isDone p
-  pub onward : r .sent ≤ e .to
-  pub within : e .to ≤ n

@@ -26,8 +26,10 @@ use Rattle.heads.proofs.Laws.{head-read}
 use Rattle.sender_record.specs.Refusals.{refusalOf}
 use Rattle.sender_record.specs.declared.Record.{Record}
 use Rattle.sender_record.proofs.Laws.{Range, Idle, Going, Passed, passed}
-use Rattle.send.specs.Preemptable.{partNow, endOf, isDone, kindOf, checkOf, frameAfter, fragmentAfter, recordAfter, mFrame, go, sentOf, unless}
-use Rattle.send.proofs.Laws.{check-length, cut-within}
+use Rattle.sender_part.specs.Parts.{partNow, endOf, isDone, kindOf}
+use Rattle.send.specs.Preemptable.{checkOf, frameAfter, fragmentAfter, recordAfter, mFrame, go, sentOf, unless}
+use Rattle.sender_part.proofs.Laws.{cut-within}
+use Rattle.send.proofs.Laws.{check-length}
 use Rattle.send_histories.specs.Whole.{Call, setting, AllActive, Written, written, continuations, frameKinds}
 use Rattle.send_histories.proofs.Whole.{from}
 

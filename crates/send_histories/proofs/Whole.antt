@@ -16,7 +16,8 @@ use Rattle.cut.specs.declared.Part.{Part}
 use Rattle.cut.specs.declared.Part.the-variants.{Whole, Cut}
 use Rattle.sender_record.specs.Refusals.{refusalOf}
 use Rattle.sender_record.specs.declared.Record.{Record}
-use Rattle.send.specs.Preemptable.{Step, partNow, endOf, isDone, kindOf, checkOf, recordAfter, mFrame, go, sentOf, unless}
+use Rattle.sender_part.specs.Parts.{partNow, endOf, isDone, kindOf}
+use Rattle.send.specs.Preemptable.{checkOf, recordAfter, mFrame, Step, go, sentOf, unless}
 use Rattle.send.proofs.Laws.{check-length}
 use Rattle.send_histories.specs.Whole.{Call, setting, Written, after, written, dataIn, joined}
 

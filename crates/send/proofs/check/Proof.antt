@@ -1,8 +1,8 @@
--- `send::part::check` meets its contract.
+-- `send::check` meets its contract.
 -- Assumes nothing.
 use borrow.Author.Needs.{needs}
-use Rattle.send.proofs.part.check.Statement.{statement}
-use Rattle.send.proofs.part.check.Tie as tie
+use Rattle.send.proofs.check.Statement.{statement}
+use Rattle.send.proofs.check.Tie as tie
 
 fcs-requires : tie.Need-fcs-requires
 fcs-requires c κs = search needs

@@ -1,10 +1,10 @@
--- `send::part::fragment_after` meets its contract.
+-- `send::fragment_after` meets its contract.
 -- Assumes nothing.
 use Rattle.send.specs.Preemptable.{fragmentAfter}
 use Rattle.rules.proofs.Tests.{tests}
 use borrow.Author.Needs.{needs}
-use Rattle.send.proofs.part.fragment_after.Statement.{statement}
-use Rattle.send.proofs.part.fragment_after.Tie as tie
+use Rattle.send.proofs.fragment_after.Statement.{statement}
+use Rattle.send.proofs.fragment_after.Tie as tie
 
 next-requires : tie.Need-next-requires
 next-requires c κs = search needs

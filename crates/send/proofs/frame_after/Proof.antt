@@ -1,10 +1,10 @@
--- `send::part::frame_after` meets its contract.
+-- `send::frame_after` meets its contract.
 -- Assumes nothing.
 use Rattle.send.specs.Preemptable.{frameAfter}
 use Rattle.rules.proofs.Tests.{tests}
 use borrow.Author.Needs.{needs}
-use Rattle.send.proofs.part.frame_after.Statement.{statement}
-use Rattle.send.proofs.part.frame_after.Tie as tie
+use Rattle.send.proofs.frame_after.Statement.{statement}
+use Rattle.send.proofs.frame_after.Tie as tie
 
 next-requires : tie.Need-next-requires
 next-requires c κs = search needs

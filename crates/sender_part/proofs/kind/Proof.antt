@@ -1,10 +1,10 @@
--- `send::part::kind` meets its contract.
+-- `sender_part::kind` meets its contract.
 -- Assumes nothing.
 use borrow.Author.Needs.{needs}
-use Rattle.send.specs.Preemptable.{kindOf}
+use Rattle.sender_part.specs.Parts.{kindOf}
 use Rattle.rules.proofs.Tests.{tests}
-use Rattle.send.proofs.part.kind.Statement.{statement}
-use Rattle.send.proofs.part.kind.Tie as tie
+use Rattle.sender_part.proofs.kind.Statement.{statement}
+use Rattle.sender_part.proofs.kind.Tie as tie
 
 last-requires : tie.Need-last-requires
 last-requires c κs = search needs

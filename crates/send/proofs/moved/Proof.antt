@@ -1,8 +1,8 @@
--- `send::part::moved` meets its contract.
+-- `send::moved` meets its contract.
 -- Assumes nothing.
 use borrow.Author.Needs.{needs}
-use Rattle.send.proofs.part.moved.Statement.{statement}
-use Rattle.send.proofs.part.moved.Tie as tie
+use Rattle.send.proofs.moved.Statement.{statement}
+use Rattle.send.proofs.moved.Tie as tie
 
 frame-after-requires : tie.Need-frame-after-requires
 frame-after-requires c κs = search needs

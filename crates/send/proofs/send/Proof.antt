@@ -1,4 +1,4 @@
--- `send::part::send` meets its contract.
+-- `send::send` meets its contract.
 -- Assumes nothing.
 use mathlib.Core.Path.{ap, ap₂, _∙_}
 use mathlib.Core.List.{List}
@@ -12,8 +12,8 @@ use Rattle.mframe.specs.Octets.{mFrameOf}
 use Rattle.sender_answers.specs.Answers.{wrote}
 use Rattle.mframe.specs.declared.Kind.{Kind}
 use Rattle.send.specs.Preemptable.{checkOf, sentOf}
-use Rattle.send.proofs.part.send.Statement.{statement}
-use Rattle.send.proofs.part.send.Tie as tie
+use Rattle.send.proofs.send.Statement.{statement}
+use Rattle.send.proofs.send.Tie as tie
 
 stretch-requires : tie.Need-stretch-requires
 stretch-requires c κs = search needs

@@ -1,12 +1,12 @@
--- `send::part::stretch` meets its contract.
+-- `sender_part::stretch` meets its contract.
 -- Assumes nothing.
 use mathlib.Core.Path.{refl, sym, _∙_}
 use native.Mathlib.Omega.{arith}
 use borrow.Author.Needs.{needs}
 use Rattle.cut.proofs.Laws.{cut-room}
-use Rattle.send.proofs.Laws.{part-active, part-inactive, cut-within}
-use Rattle.send.proofs.part.stretch.Statement.{statement}
-use Rattle.send.proofs.part.stretch.Tie as tie
+use Rattle.sender_part.proofs.Laws.{part-active, part-inactive, cut-within}
+use Rattle.sender_part.proofs.stretch.Statement.{statement}
+use Rattle.sender_part.proofs.stretch.Tie as tie
 
 add-next-part : tie.Need-add-next-part
 add-next-part c = search needs
