@@ -6,7 +6,7 @@ use Prim.Native.Nat.{ℕ}
 use native.Mathlib.Omega.{arith}
 use Rattle.trace.specs.Trace.{Said, found, ended, refused, said, readAt}
 use Rattle.trace.specs.declared.Read.{Read}
-use Rattle.trace.proofs.Laws.{found-inside}
+use Rattle.trace_layout.proofs.Inside.{found-inside}
 use Rattle.trace_words.specs.Content.{numberOf, contentOf, Short}
 use Rattle.seatport.specs.Tracing.{Traced}
 
