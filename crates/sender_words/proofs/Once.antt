@@ -5,7 +5,7 @@ use mathlib.Core.Bool.{Bool}
 use mathlib.Core.List.{List}
 use Prim.Native.Nat.{ℕ, _<_, _^_}
 use Rattle.cut.specs.declared.Ask.{Ask}
-use Rattle.send.specs.declared.Record.{Record}
+use Rattle.sender_record.specs.declared.Record.{Record}
 use Rattle.sender_answers.specs.Answers.{said}
 use Rattle.sender_answers.specs.declared.Answer.{Answer}
 use Rattle.sender_words.specs.Sender.{numberOf, writtenOf, senderWords, senderFits, senderOf, askOf}

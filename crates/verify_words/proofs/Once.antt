@@ -7,7 +7,7 @@ use Prim.Native.Nat.{ℕ}
 use Rattle.verify.specs.Verify.{said}
 use Rattle.verify.specs.declared.Answer.{Answer}
 use Rattle.verify.specs.declared.Event.{Event}
-use Rattle.verify.specs.declared.Record.{Record}
+use Rattle.verify_record.specs.declared.Record.{Record}
 use Rattle.words.specs.Words.{flag}
 use Rattle.verify_words.specs.Link.{eventOf, linkWords, linkFits, linkOf}
 
