@@ -5,7 +5,7 @@ use Rattle.receiver_answers.specs.declared.Answer.{Answer}
 use Rattle.receiver_answers.specs.declared.Drop.{Drop}
 use Rattle.receiver_answers.specs.declared.Refusal.{Refusal}
 use Rattle.receiver_answers.specs.Answers.{said, dropped, refused}
-use Rattle.receiver_answers.proofs.Answers.{said-one}
+use Rattle.receiver_answers.proofs.Once.{said-one}
 use Rattle.receiver_record.specs.declared.Record.{Record}
 use Rattle.outcomes.specs.declared.Received.{Received}
 use Rattle.outcomes.specs.Outcomes.{Step, told, unchanged, abandoned}
