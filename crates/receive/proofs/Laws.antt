@@ -25,7 +25,8 @@ use Rattle.receiver_answers.specs.Answers.{Said, says}
 use Rattle.receiver_record.specs.Records.{fresh}
 use Rattle.outcomes.specs.Outcomes.{Step, unchanged, abandoned}
 use Rattle.continuing.specs.Continuing.{endedOf, unexpected, totalOf, continuationOf}
-use Rattle.assembly.specs.Steps.{expressOf, heardOf, startOf, stepOf}
+use Rattle.starting.specs.Starting.{startOf}
+use Rattle.assembly.specs.Steps.{expressOf, heardOf, stepOf}
 use Rattle.receive.specs.Receive.{writes, isDone, expressDelivered}
 
 -- a head that is refused: its answer writes nothing, and is no delivery
