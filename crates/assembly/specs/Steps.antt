@@ -1,10 +1,7 @@
 -- What an mFrame of known kind is answered and what becomes of the record (document 01, "Receiving"), in the paper's numbers.
 -- Assumes nothing.
-use mathlib.Core.Bool.{Bool, true, false}
 use mathlib.Core.List.{List}
-use Prim.Native.Nat.{ℕ, _+_}
-use Rattle.codes.specs.Codes.{fragment}
-use Rattle.codes.specs.declared.FrameCount.{FrameCount}
+use Prim.Native.Nat.{ℕ}
 use Rattle.crc.specs.Crc.{allOnes}
 use Rattle.endings.specs.Judge.{endingOf}
 use Rattle.endings.specs.declared.Ending.{Ending}
@@ -13,8 +10,8 @@ use Rattle.mframe.specs.declared.Kind.{Kind}
 use Rattle.mframe.specs.declared.Kind.the-variants as K
 use Rattle.receiver_answers.specs.Answers.{Said, says}
 use Rattle.receiver_record.specs.declared.Record.{Record}
-use Rattle.receiver_record.specs.Records.{erred, shut, opened}
 use Rattle.outcomes.specs.Outcomes.{Step, unchanged}
+use Rattle.starting.specs.Starting.{startOf}
 use Rattle.continuing.specs.Continuing.{continuationOf}
 
 -- "For E only the FCS counts"
@@ -28,17 +25,6 @@ abbrev pub heardOf : Said → Ending → Record → Step
 heardOf heard (Done n) r = unchanged (says 21 0) r
 heardOf heard (More n running) r = unchanged heard r
 heardOf heard Damaged r = unchanged (says 21 0) r
-
--- one for an assembly that is open
-abbrev pub one : Bool → ℕ
-one true = 1
-one false = 0
-
--- "A start always opens a fresh assembly; one still open is abandoned first." The first continuation is expected with fragment count 0
-abbrev pub startOf : FrameCount → Ending → Record → Step
-startOf frame (Done n) r = record { said = says 1 n; after = shut (erred (one (r .assembling)) (r .counters)) }
-startOf frame (More n running) r = record { said = says 2 n; after = opened frame (fragment 0) n running (erred (one (r .assembling)) (r .counters)) }
-startOf frame Damaged r = record { said = says 25 0; after = shut (erred (one (r .assembling) + 1) (r .counters)) }
 
 -- an mFrame by its kind, its data and check octets
 abbrev pub stepOf : Kind → List ℕ → Record → Step

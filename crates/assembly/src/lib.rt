@@ -1,7 +1,5 @@
 // What an mFrame of known kind does to the receiving record (document 01, "Receiving" and "Counters"). All of it is by value: memory is
 // lent to the crate above.
-use codes::FragmentCount;
-use codes::FrameCount;
 use endings::Ending;
 use mframe::Kind;
 use outcomes::Received;
@@ -11,7 +9,7 @@ use receiver_record::Record;
 ghost use mathlib.Core.Path.{_≡_};
 ghost use Rattle.receiver_answers.specs.Answers.{said};
 ghost use Rattle.outcomes.specs.Outcomes.{told};
-ghost use Rattle.assembly.specs.Steps.{expressOf, heardOf, one, startOf, stepOf};
+ghost use Rattle.assembly.specs.Steps.{expressOf, heardOf, stepOf};
 
 fn express(ending: Ending, record: Record) -> Received
     ensures { λ r. ⌜ told r ≡ expressOf ending «record» ⌝ }
@@ -43,49 +41,13 @@ fn heard(answer: Answer, ending: Ending, record: Record) -> Received
     }
 }
 
-// One for an assembly that is open.
-fn one(assembling: bool) -> u32
-    ensures { λ r. ⌜ r ≡ one assembling ⌝ }
-{
-    if assembling { 1 } else { 0 }
-}
-
-// A start opens a fresh assembly; one still open is abandoned first.
-fn start(frame: FrameCount, ending: Ending, record: Record) -> Received
-    ensures { λ r. ⌜ told r ≡ startOf frame ending «record» ⌝ }
-{
-    let lost = one(record.assembling);
-    let counters = record.counters;
-    match ending {
-        Ending::Done(n) => Received {
-            answer: Answer::Delivered(n),
-            after: Record::shut(counters.erred(lost)),
-        },
-        Ending::More(n, running) => Received {
-            answer: Answer::Kept(n),
-            after: Record {
-                assembling: true,
-                frame,
-                fragment: FragmentCount::ZERO,
-                kept: n,
-                running,
-                counters: counters.erred(lost),
-            },
-        },
-        Ending::Damaged => Received {
-            answer: Answer::Dropped(Drop::Damaged),
-            after: Record::shut(counters.erred(lost + 1)),
-        },
-    }
-}
-
 // An mFrame by its kind, its data and check octets. No octet is summed twice, and none of a continuation that fails 22, 23 or 24.
 pub fn decide(kind: Kind, octets: &[u8], record: Record) -> Received
     ensures { λ r. ⌜ told r ≡ stepOf kind (now (octets .entry)) «record» ⌝ }
 {
     match kind {
         Kind::Express => express(endings::judge(crc::ALL_ONES, octets), record),
-        Kind::Start(frame) => start(frame, endings::judge(crc::ALL_ONES, octets), record),
+        Kind::Start(frame) => starting::start(frame, endings::judge(crc::ALL_ONES, octets), record),
         Kind::Continuation(frame, fragment) => continuing::continuation(
             frame,
             fragment,

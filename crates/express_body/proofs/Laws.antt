@@ -14,7 +14,8 @@ use Rattle.mframe.specs.declared.Kind.{Kind}
 use Rattle.mframe.specs.declared.Kind.the-variants as K
 use Rattle.receiver_answers.specs.Answers.{Said, says}
 use Rattle.receiver_record.specs.Records.{fresh}
-use Rattle.assembly.specs.Steps.{expressOf, heardOf, startOf, stepOf}
+use Rattle.assembly.specs.Steps.{expressOf, heardOf, stepOf}
+use Rattle.starting.specs.Starting.{startOf}
 use Rattle.continuing.specs.Continuing.{continuationOf}
 use Rattle.express_body.specs.Body.{isDone, expressDelivered}
 

@@ -24,7 +24,8 @@ use Rattle.receiver_answers.specs.Answers.{Said, says}
 use Rattle.receiver_record.specs.Records.{strayed, shut, opened, counting}
 use Rattle.outcomes.specs.Outcomes.{Step, delimiterError, unchanged, abandoned}
 use Rattle.continuing.specs.Continuing.{endedOf, unexpected, totalOf, continuationOf}
-use Rattle.assembly.specs.Steps.{expressOf, heardOf, startOf, stepOf}
+use Rattle.starting.specs.Starting.{startOf}
+use Rattle.assembly.specs.Steps.{expressOf, heardOf, stepOf}
 use Rattle.receive.specs.Receive.{leftOf}
 use Rattle.endings.proofs.Endings.{Ends, ends}
 use Rattle.link.specs.Frames.{ifSo}

@@ -23,7 +23,8 @@ use Rattle.heads.specs.declared.Fault.the-variants.{Short, Long, Preamble, Deli
 use Rattle.receiver_record.specs.declared.Record.{Record}
 use Rattle.receiver_answers.specs.Answers.{says}
 use Rattle.outcomes.specs.Outcomes.{Step, unchanged, abandoned}
-use Rattle.assembly.specs.Steps.{expressOf, heardOf, startOf, stepOf}
+use Rattle.assembly.specs.Steps.{expressOf, heardOf, stepOf}
+use Rattle.starting.specs.Starting.{startOf}
 use Rattle.continuing.specs.Continuing.{endedOf, unexpected, totalOf, continuationOf}
 use Rattle.receive.specs.Receive.{writes}
 

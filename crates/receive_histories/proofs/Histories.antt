@@ -10,7 +10,7 @@ use Rattle.crc.specs.Crc.{allOnes, registerOver}
 use Rattle.receiver_record.specs.declared.Counters.{Counters}
 use Rattle.receiver_record.specs.declared.Record.{Record}
 use Rattle.receiver_record.specs.Records.{fresh}
-use Rattle.assembly.specs.Steps.{one}
+use Rattle.starting.specs.Starting.{one}
 use Rattle.receive_histories.specs.History.{recordAfter, bufferAfter, Call, calls, count, started, delivered, abandoning, damagedStart, misdelimited, completing, continuing, Holds}
 use Rattle.receive_histories.proofs.Right.{Right, idle, going, right-ranges, right-after}
 use Rattle.receive_histories.proofs.Tally.{four, plus, Modulo, call-tally}

@@ -29,7 +29,8 @@ use Rattle.receiver_answers.specs.Answers.{Said, says}
 use Rattle.receiver_record.specs.Records.{strayed, shut, opened, counting, inRange}
 use Rattle.outcomes.specs.Outcomes.{Step, unchanged, abandoned}
 use Rattle.continuing.specs.Continuing.{endedOf, unexpected, totalOf, continuationOf}
-use Rattle.assembly.specs.Steps.{expressOf, heardOf, startOf, stepOf}
+use Rattle.starting.specs.Starting.{startOf}
+use Rattle.assembly.specs.Steps.{expressOf, heardOf, stepOf}
 use Rattle.receive.specs.Receive.{byHead, receivedOf, upTo, leftOf, dataIn, bufferOf}
 use Rattle.heads.proofs.Heads.{Refusal, n12, n13, n14, n15, n16, n17, Good, head-good}
 use Rattle.endings.proofs.Endings.{Ends, ends}

@@ -22,7 +22,8 @@ use Rattle.receiver_answers.specs.Answers.{Said, says}
 use Rattle.receiver_record.specs.Records.{erred, strayed, joined, completed, opened, inRange}
 use Rattle.outcomes.specs.Outcomes.{Step, unchanged, abandoned}
 use Rattle.continuing.specs.Continuing.{endedOf, unexpected, totalOf, continuationOf}
-use Rattle.assembly.specs.Steps.{one, expressOf, heardOf, startOf, stepOf}
+use Rattle.starting.specs.Starting.{one, startOf}
+use Rattle.assembly.specs.Steps.{expressOf, heardOf, stepOf}
 use Rattle.receive.specs.Receive.{byHead, receivedOf}
 use Rattle.heads.proofs.Heads.{Refusal, n12, n13, n14, n15, n16, n17, Good, head-good}
 use Rattle.receive_histories.specs.History.{Call, callOf, started, delivered, abandoning, damagedStart, misdelimited, completing, continuing}

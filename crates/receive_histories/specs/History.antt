@@ -12,7 +12,7 @@ use Rattle.mframe.specs.declared.Kind.the-variants.{Express, Start, Continuatio
 use Rattle.receiver_record.specs.declared.Record.{Record}
 use Rattle.receiver_record.specs.Records.{inRange}
 use Rattle.outcomes.specs.Outcomes.{Step, delimiterError}
-use Rattle.assembly.specs.Steps.{one}
+use Rattle.starting.specs.Starting.{one}
 use Rattle.receive.specs.Receive.{receivedOf, bufferOf}
 
 -- the record and the buffer after the mFrames ms, from the record r and the buffer b

@@ -25,7 +25,8 @@ use Rattle.receiver_answers.specs.Answers.{says}
 use Rattle.receiver_record.specs.Records.{inRange, counting, strayed}
 use Rattle.outcomes.specs.Outcomes.{Step, told, delimiterError, unchanged, abandoned}
 use Rattle.continuing.specs.Continuing.{endedOf, unexpected, totalOf, continuationOf}
-use Rattle.assembly.specs.Steps.{expressOf, heardOf, startOf, stepOf}
+use Rattle.starting.specs.Starting.{startOf}
+use Rattle.assembly.specs.Steps.{expressOf, heardOf, stepOf}
 use Rattle.receive.specs.Receive.{byHead, receivedOf, Answered}
 use Rattle.receiver_words.specs.Receiver.{receiverWords}
 use Rattle.seatport.specs.Receiving as S

@@ -3,7 +3,7 @@
 use mathlib.Core.Bool.{Bool, true, false}
 use Prim.Native.Nat.{_≤_}
 use native.Mathlib.Omega.{arith}
-use Rattle.assembly.specs.Steps.{one}
+use Rattle.starting.specs.Starting.{one}
 
 pub one-le : (b : Bool) → one b ≤ 1
 one-le true = omega arith

@@ -1,10 +1,10 @@
--- `assembly::start` meets its contract.
+-- `starting::start` meets its contract.
 -- Assumes nothing.
 use native.Mathlib.Omega.{arith}
-use Rattle.assembly.proofs.Laws.{one-le}
+use Rattle.starting.proofs.Laws.{one-le}
 use borrow.Author.Needs.{needs}
-use Rattle.assembly.proofs.start.Statement.{statement}
-use Rattle.assembly.proofs.start.Tie as tie
+use Rattle.starting.proofs.start.Statement.{statement}
+use Rattle.starting.proofs.start.Tie as tie
 
 one-requires : tie.Need-one-requires
 one-requires c κs = search needs
