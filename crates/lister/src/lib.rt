@@ -13,7 +13,6 @@ use trace::Cursor;
 use trace::Read;
 ghost use Prim.Native.Nat.{_+_, _≤_};
 ghost use lib.ListN.{length};
-ghost use Rattle.lister.specs.Room.{Room};
 
 // A header and the longest content: where so many octets are in the window, or the input has ended, a record reads as in the whole trace.
 const ENOUGH: usize = 1604;
@@ -22,7 +21,7 @@ const ENOUGH: usize = 1604;
 const LINE: usize = 88;
 
 // Where the listing stands: the receiving record, the next record's number, the part of the window not yet read, whether the input has
-// ended, and how many octets of text wait to be written.
+// ended, how many octets of text wait to be written, whether the trace is read no further, and whether anything is left to do.
 struct Standing {
     record: Record,
     number: u64,
@@ -30,14 +29,8 @@ struct Standing {
     to: usize,
     ended: bool,
     waiting: usize,
-}
-
-enum Turn {
-    On(Standing),
-    // The trace ends here, or is read no further.
-    Over(Standing),
-    // The input could not be read or the listing not written; that was said.
-    Failed,
+    over: bool,
+    going: bool,
 }
 
 // Writes what waits.
@@ -52,154 +45,147 @@ fn write(out: &[u8], waiting: usize) -> bool {
     false
 }
 
-// The place for a line: behind what waits, or at the front once that is written.
-enum Space {
-    At(usize),
-    None,
+// The place for a line: behind what waits, or at the front once that is written, if it could be.
+struct Place {
+    at: usize,
+    free: bool,
 }
 
-fn place_for_line(out: &[u8], waiting: usize) -> Space
+fn place_for_line(out: &[u8], waiting: usize) -> Place
     requires { ⌜ 88 ≤ length (now out) ⌝ }
-    ensures { λ r. ⌜ Room (length (now (out .entry))) r ⌝ }
+    ensures { λ r. ⌜ r .at + 88 ≤ length (now (out .entry)) ⌝ }
 {
     if waiting <= out.len() - LINE {
-        return Space::At(waiting);
+        return Place {
+            at: waiting,
+            free: true,
+        };
     }
-    if write(out, waiting) {
-        return Space::At(0);
+    Place {
+        at: 0,
+        free: write(out, waiting),
     }
-    Space::None
 }
 
 // One more read behind what is left in the window, which goes to its front.
-fn refill(s: Standing, window: &mut [u8]) -> Turn {
+fn refill(s: Standing, window: &mut [u8]) -> Standing {
     let mut spare = [0u8; ENOUGH];
     let rest = front(part(window, s.from, s.to), ENOUGH);
     let left = rest.len();
     octets::copy_into(rest, &mut spare, 0);
     octets::copy_into(front(&spare, left), window, 0);
     let got = libc::read(STDIN_FILENO, &mut window[left..]);
+    let mut t = s;
     if got < 0 {
         io::write_all(STDERR_FILENO, b"mmlist: the trace could not be read.\n");
-        return Turn::Failed;
+        t.going = false;
+        return t;
     }
-    let more = io::count(got, &window[left..]);
-    Turn::On(Standing {
-        from: 0,
-        to: left + more,
-        ended: more == 0,
-        ..s
-    })
+    let more = io::count(got, window);
+    t.from = 0;
+    t.to = left + more;
+    t.ended = more == 0;
+    t
 }
 
-// A good record: its content given to the receiver, its line put.
-fn list(s: Standing, content: &[u8], buffer: &mut [u8], out: &mut [u8]) -> Turn
-    requires { ⌜ 88 ≤ length (now out) ⌝ }
-{
-    let Space::At(at) = place_for_line(out, s.waiting) else {
-        return Turn::Failed;
-    };
-    let r = s.record;
-    let listed = listing::list(s.number, content, r, buffer, out, at);
-    let after = listed.after;
-    Turn::On(Standing {
-        record: after,
-        number: std::num::wrapping_add_u64(s.number, 1),
-        from: s.from,
-        to: s.to,
-        ended: s.ended,
-        waiting: listed.next,
-    })
+// What stands at the window's front.
+enum Found {
+    // Too little to tell.
+    Part,
+    // A good record: where its content begins and ends.
+    Record { start: usize, end: usize },
+    Refused(u64),
+    End,
 }
 
-// A refused record: its line, and no further reading.
-fn stop(s: Standing, refusal: u64, out: &mut [u8]) -> Turn
-    requires { ⌜ 88 ≤ length (now out) ⌝ }
-{
-    let Space::At(at) = place_for_line(out, s.waiting) else {
-        return Turn::Failed;
-    };
-    let next = lines::stop_line(s.number, refusal, out, at);
-    Turn::Over(Standing { waiting: next, ..s })
-}
-
-// The record at the window's front.
-fn read(s: Standing, window: &[u8], buffer: &mut [u8], out: &mut [u8]) -> Turn
-    requires { ⌜ 88 ≤ length (now out) ⌝ }
-{
-    let trace = front(window, s.to);
+fn find(s: Standing, window: &[u8]) -> Found {
+    if s.over {
+        return Found::End;
+    }
+    if !s.ended && part(window, s.from, s.to).len() < ENOUGH {
+        return Found::Part;
+    }
     let at = s.from;
     let cursor = Cursor { at };
-    match cursor.read(trace) {
+    match cursor.read(front(window, s.to)) {
         Read::Record {
             start,
             length: _,
             next,
-        } => list(
-            Standing { from: next.at, ..s },
-            part(trace, start, next.at),
-            buffer,
-            out,
-        ),
-        Read::End => Turn::Over(s),
-        Read::Refused(refusal) => stop(s, refusal.number() as u64, out),
+        } => Found::Record {
+            start,
+            end: next.at,
+        },
+        Read::End => Found::End,
+        Read::Refused(refusal) => Found::Refused(refusal.number() as u64),
     }
 }
 
-fn go_on(s: Standing, window: &mut [u8], buffer: &mut [u8], out: &mut [u8]) -> Turn
-    requires { ⌜ 88 ≤ length (now out) ⌝ }
-{
-    if s.ended {
-        return read(s, window, buffer, out);
+// The line of what was found. A good record's content is given to the receiver; behind a refused one nothing is read; the last line is
+// written with all that waits.
+fn put(
+    s: Standing,
+    found: Found,
+    window: &[u8],
+    buffer: &mut [u8; BODY_MOST],
+    out: &mut [u8; 65536],
+) -> Standing {
+    let r = s.record;
+    let place = place_for_line(out, s.waiting);
+    let at = place.at;
+    let mut t = s;
+    t.going = place.free;
+    if !place.free {
+        return t;
     }
-    let left = part(window, s.from, s.to);
-    if left.len() < ENOUGH {
+    match found {
+        Found::Record { start, end } => {
+            let content = part(window, start, end);
+            let listed = listing::list(s.number, content, r, buffer, out, at);
+            let after = listed.after;
+            t.record = after;
+            t.number = std::num::wrapping_add_u64(s.number, 1);
+            t.from = end;
+            t.waiting = listed.next;
+            t
+        }
+        Found::Refused(refusal) => {
+            t.waiting = lines::stop_line(s.number, refusal, out, at);
+            t.over = true;
+            t
+        }
+        Found::Part | Found::End => {
+            let c = r.counters;
+            let next = lines::end_line(
+                c.errors as u64,
+                c.delimiters as u64,
+                c.assembled as u64,
+                c.fragments as u64,
+                out,
+                at,
+            );
+            write(out, next);
+            t.going = false;
+            t
+        }
+    }
+}
+
+fn turn(
+    s: Standing,
+    window: &mut [u8; 65536],
+    buffer: &mut [u8; BODY_MOST],
+    out: &mut [u8; 65536],
+) -> Standing {
+    let found = find(s, window);
+    if let Found::Part = found {
         return refill(s, window);
     }
-    read(s, window, buffer, out)
-}
-
-// The last line, and all that waits.
-fn finish(s: Standing, out: &mut [u8])
-    requires { ⌜ 88 ≤ length (now out) ⌝ }
-{
-    if let Space::At(at) = place_for_line(out, s.waiting) {
-        let r = s.record;
-        let c = r.counters;
-        let next = lines::end_line(
-            c.errors as u64,
-            c.delimiters as u64,
-            c.assembled as u64,
-            c.fragments as u64,
-            out,
-            at,
-        );
-        write(out, next);
-    }
-}
-
-// Turns up to the one that does not go on. A proved loop has to end, and nothing says that the input does: it counts its turns down from
-// more than any input has.
-fn last_turn(first: Standing, window: &mut [u8], buffer: &mut [u8], out: &mut [u8]) -> Turn
-    requires { ⌜ 88 ≤ length (now out) ⌝ }
-{
-    let mut s = first;
-    let mut turns = u64::MAX;
-    while turns > 0 {
-        let t = go_on(s, window, buffer, out);
-        let Turn::On(next) = t else {
-            return t;
-        };
-        s = next;
-        turns -= 1;
-    }
-    Turn::Over(s)
+    put(s, found, window, buffer, out)
 }
 
 // Before the first record: the receiver is fresh, and the title waits.
-fn begin(out: &mut [u8]) -> Standing
-    requires { ⌜ 88 ≤ length (now out) ⌝ }
-{
+fn begin(out: &mut [u8; 65536]) -> Standing {
     Standing {
         record: Record::fresh(),
         number: 1,
@@ -207,14 +193,25 @@ fn begin(out: &mut [u8]) -> Standing
         to: 0,
         ended: false,
         waiting: lines::title(out, 0),
+        over: false,
+        going: true,
     }
 }
 
-fn list_all(first: Standing, window: &mut [u8], buffer: &mut [u8], out: &mut [u8])
-    requires { ⌜ 88 ≤ length (now out) ⌝ }
-{
-    if let Turn::Over(last) = last_turn(first, window, buffer, out) {
-        finish(last, out);
+// The turns of a listing. A proved loop has to end, and nothing says that the input does: it counts its turns down from more than any input
+// has.
+fn list_all() {
+    let mut window = io::large_buffer();
+    let mut buffer = [0u8; BODY_MOST];
+    let mut out = io::large_buffer();
+    let mut s = begin(&mut out);
+    let mut turns = u64::MAX;
+    while turns > 0 {
+        s = turn(s, &mut window, &mut buffer, &mut out);
+        if !s.going {
+            return;
+        }
+        turns -= 1;
     }
 }
 
@@ -227,9 +224,5 @@ pub fn run() {
         );
         return;
     }
-    let mut window = io::large_buffer();
-    let mut buffer = [0u8; BODY_MOST];
-    let mut out = io::large_buffer();
-    let first = begin(&mut out);
-    list_all(first, &mut window, &mut buffer, &mut out);
+    list_all();
 }

@@ -8,9 +8,8 @@ use delimiters::Delimiter;
 use delimiters::Fragment;
 use endings::Ending;
 use test_questions::read;
-use test_questions::read::Came;
+use test_questions::read::Question;
 use test_questions::say;
-use test_questions::went::Next;
 use test_questions::went::Went;
 
 // The check octets of every number of octets from 0 to all of them.
@@ -57,12 +56,7 @@ fn say_fragment(f: Fragment) {
     }
 }
 
-fn octet() -> Went {
-    let mut x = [0u8; 1];
-    if !read::all(&mut x) {
-        return Went::Broken;
-    }
-    let octet = x[0];
+fn octet(octet: u8) -> Went {
     say::text(b"octet");
     say::small(octet);
     say::number(delimiters::distance(octet) as u64);
@@ -72,12 +66,7 @@ fn octet() -> Went {
 }
 
 // A count's steps and codes.
-fn count() -> Went {
-    let mut x = [0u8; 1];
-    if !read::all(&mut x) {
-        return Went::Broken;
-    }
-    let n = x[0];
+fn count(n: u8) -> Went {
     let frame = FrameCount(n);
     let fragment = FragmentCount(n);
     let next = frame.next();
@@ -108,18 +97,9 @@ fn ask_of(asked: u8, t: usize) -> Ask {
     if asked == 0 { Ask::None } else { Ask::At(t) }
 }
 
-fn cut_asked() -> Went {
-    let mut head = [0u8; 26];
-    if !read::all(&mut head) {
-        return Went::Broken;
-    }
-    let ask = ask_of(head[17], read::long(&head, 18));
-    Went::answered(say_part(cut::next_part(
-        read::long(&head, 0),
-        read::long(&head, 8),
-        head[16],
-        ask,
-    )))
+fn cut_asked(q: Question) -> Went {
+    let ask = ask_of(q.octet(18), q.long(19));
+    Went::answered(say_part(cut::next_part(q.long(1), q.long(9), q.octet(17), ask)))
 }
 
 // What the last four octets decide.
@@ -141,13 +121,13 @@ fn say_ending(e: Ending) -> bool {
 }
 
 // A register and a run of octets: their check octets, or their ending.
-fn over_octets(check: bool) -> Went {
-    let mut head = [0u8; 6];
+fn over_octets(q: Question, check: bool) -> Went {
     let mut space = [0u8; 2048];
-    let Came::Whole(n) = read::run(&mut head, &mut space) else {
+    let register = q.word(1);
+    let n = q.short(5);
+    if !read::part(&mut space, 0, n) {
         return Went::Broken;
-    };
-    let register = read::word(&head, 0);
+    }
     let octets = read::front(&space, n);
     if check {
         return Went::answered(check_lines(register, octets));
@@ -174,34 +154,35 @@ fn lay_piece(piece: &[u8], memory: &mut [u8], at: usize) -> bool {
     say::line_end()
 }
 
-fn lay() -> Went {
-    let mut head = [0u8; 6];
+fn lay(q: Question) -> Went {
     let mut memory = [0u8; 2048];
     let mut piece = [0u8; 2048];
-    if !read::all(&mut head) {
+    let n = q.short(1);
+    let m = q.short(3);
+    if !read::part(&mut memory, 0, n) {
         return Went::Broken;
     }
-    let n = read::short(&head, 0);
-    let m = read::short(&head, 2);
-    if !read::part(&mut memory, n) || !read::part(&mut piece, m) {
+    if !read::part(&mut piece, 0, m) {
         return Went::Broken;
     }
     Went::answered(lay_piece(
         read::front(&piece, m),
         read::front_mut(&mut memory, n),
-        read::short(&head, 4),
+        q.short(5),
     ))
 }
 
-fn question(kind: u8) -> Went {
-    match kind {
-        1 => over_octets(true),
-        2 => octet(),
-        3 => count(),
-        4 => cut_asked(),
-        5 => over_octets(false),
-        6 => lay(),
-        _ => Went::Broken,
+// The octets that the numbers of each kind of question take.
+const SIZES: [usize; 7] = [0, 7, 2, 2, 27, 7, 7];
+
+fn question(q: Question) -> Went {
+    match q.octet(0) {
+        1 => over_octets(q, true),
+        2 => octet(q.octet(1)),
+        3 => count(q.octet(1)),
+        4 => cut_asked(q),
+        5 => over_octets(q, false),
+        _ => lay(q),
     }
 }
 
@@ -210,10 +191,11 @@ fn main() {
     let mut went = Went::start();
     let mut turns = u32::MAX;
     while turns > 0 {
-        let Next::Question(kind) = went.next(b"test_ground") else {
+        let q = went.next(b"test_ground", &SIZES);
+        if !q.asked {
             return;
-        };
-        went = question(kind);
+        }
+        went = question(q);
         turns -= 1;
     }
 }

@@ -13,19 +13,18 @@ pub(crate) fn one_of(x: u32, k: u32) -> u32 {
     x / 65536 % k
 }
 
-fn fill(y: u32, body: &mut [u8]) {
+// The length of a body.
+pub(crate) fn length(x: u32) -> usize {
+    60 + one_of(x, 1459) as usize
+}
+
+// The octets of a body that is made from y. A shorter one has the first of them.
+pub(crate) fn fill(y: u32, body: &mut [u8]) {
     let mut x = y;
     let mut i = 0;
     while i < body.len() {
         x = step(x);
         body[i] = (x / 65536 % 256) as u8;
         i += 1;
-    }
-}
-
-// The octets of a body, at the front of the space.
-pub(crate) fn body(y: u32, n: usize, space: &mut [u8]) {
-    if n <= space.len() {
-        fill(y, &mut space[0..n]);
     }
 }

@@ -10,16 +10,114 @@ use test_questions::read;
 use test_questions::say;
 use test_questions::went::Went;
 
-// The state of an entry: the numbers drawn, both ends, the body of the frame chosen last, what is counted, and whether every line so far was
-// written.
+// The state of an entry: the number drawn last, both ends, the body of the frame chosen last, what is counted, the mFrame that the turn wrote
+// (none: no octets), and whether its answer could be put out.
 struct Link {
     x: u32,
-    sender: sender_record::Record,
+    sender: send::Record,
     receiver: receiver_record::Record,
     seed: u32,
     length: usize,
     tally: Tally,
+    wrote: usize,
+    preemptable: bool,
+    done: bool,
     written: bool,
+}
+
+// What a call wrote, or that it refused.
+fn wrote(l: Link, answer: Answer, preemptable: bool) -> Link {
+    let mut next = l;
+    next.preemptable = preemptable;
+    match answer {
+        Answer::Wrote { length, done } => {
+            next.wrote = length;
+            next.done = done;
+            next
+        }
+        Answer::Refused(_) => next,
+    }
+}
+
+fn express(x: u32, out: &mut [u8; 1530]) -> Answer {
+    let mut body = [0u8; 1518];
+    chance::fill(x, &mut body);
+    single::express(read::front(&body, chance::length(x)), out)
+}
+
+// The ask of a preemptable call, from two draws.
+fn ask_of(a: u32, t: u32) -> Ask {
+    if chance::one_of(a, 4) == 0 {
+        return Ask::None;
+    }
+    Ask::At(chance::one_of(t, 400) as usize)
+}
+
+// A frame chosen for a preemptable call, where none is in progress.
+fn chosen(l: Link) -> Link {
+    let s = l.sender;
+    if s.length != 0 {
+        return l;
+    }
+    let x = chance::step(l.x);
+    let mut next = l;
+    next.x = x;
+    next.seed = x;
+    next.length = chance::length(x);
+    next
+}
+
+fn preemptable(first: Link, out: &mut [u8; 1530]) -> Link {
+    let mut body = [0u8; 1518];
+    let l = chosen(first);
+    let a = chance::step(l.x);
+    let x = chance::step(a);
+    let s = l.sender;
+    chance::fill(l.seed, &mut body);
+    let sent = send::preemptable(s, read::front(&body, l.length), ask_of(a, x), out);
+    let answer = sent.answer;
+    let after = sent.after;
+    let mut on = l;
+    on.x = x;
+    on.sender = after;
+    wrote(on, answer, true)
+}
+
+// A setting of the sender from a draw: hold or extra.
+fn set(l: Link, hold: bool) -> Link {
+    let x = chance::step(l.x);
+    let drawn = chance::one_of(x, 4);
+    let mut sender = l.sender;
+    let mut next = l;
+    next.x = x;
+    if hold {
+        sender.hold = drawn == 0;
+        next.sender = sender;
+        return next;
+    }
+    sender.extra = (drawn % 256) as u8;
+    next.sender = sender;
+    next
+}
+
+// The sender's turn.
+fn send_one(before: Link, out: &mut [u8; 1530]) -> Link {
+    let x = chance::step(before.x);
+    let mut l = before;
+    l.x = x;
+    l.wrote = 0;
+    match chance::one_of(x, 16) {
+        0 => {
+            let drawn = chance::step(x);
+            l.x = drawn;
+            wrote(l, express(drawn, out), false)
+        }
+        1 => wrote(l, single::verify(out), false),
+        2 => wrote(l, single::respond(out), false),
+        3 => set(l, true),
+        4 => set(l, false),
+        _ => preemptable(l, out),
+    }
 }
 
 // The body of a delivered frame: its FCS.
@@ -28,7 +126,7 @@ fn say_body(body: &[u8]) {
 }
 
 // An mFrame that arrives: the receiver's answer.
-fn arrive(l: Link, mframe: &[u8], buffer: &mut [u8]) -> Link {
+fn arrive(l: Link, mframe: &[u8], buffer: &mut [u8; 1518]) -> Link {
     let r = l.receiver;
     let got = receive::receive(mframe, r, buffer);
     let answer = got.answer;
@@ -52,144 +150,29 @@ fn arrive(l: Link, mframe: &[u8], buffer: &mut [u8]) -> Link {
     next
 }
 
-// The fate of an mFrame of so many octets: lost or not. A preemptable one is not lost while three in a row were.
-fn fate(l: Link, out: &[u8], length: usize, preemptable: bool, buffer: &mut [u8]) -> Link {
+// Whether an mFrame is lost, from a draw. A preemptable one is not while three in a row were.
+fn is_lost(x: u32, preemptable: bool, run: u32) -> bool {
+    if preemptable && run == 3 {
+        return false;
+    }
+    chance::one_of(x, 3) == 0
+}
+
+// The fate of an mFrame.
+fn fate(l: Link, out: &[u8], buffer: &mut [u8; 1518]) -> Link {
     let x = chance::step(l.x);
     let t = l.tally;
-    let spared = preemptable && t.run == 3;
-    let mut on = l;
-    on.x = x;
-    if chance::one_of(x, 3) == 0 && !spared {
-        let lost = t.lost(preemptable);
-        on.tally = lost;
-        return on;
-    }
-    let arrived = t.arrived(preemptable);
-    on.tally = arrived;
-    arrive(on, read::front(out, length), buffer)
-}
-
-// What a call that no record is kept for wrote.
-fn written(l: Link, answer: Answer, out: &[u8], buffer: &mut [u8]) -> Link {
-    match answer {
-        Answer::Wrote { length, done: _ } => fate(l, out, length, false, buffer),
-        Answer::Refused(_) => l,
-    }
-}
-
-// A length of a body, from a draw.
-fn body_length(x: u32) -> usize {
-    60 + chance::one_of(x, 1459) as usize
-}
-
-fn express(l: Link, space: &mut [u8], out: &mut [u8], buffer: &mut [u8]) -> Link {
-    let x = chance::step(l.x);
-    let n = body_length(x);
-    chance::body(x, n, space);
-    let answer = single::express(read::front(space, n), out);
-    let mut on = l;
-    on.x = x;
-    written(on, answer, out, buffer)
-}
-
-// A frame chosen for a preemptable call, where none is in progress.
-fn chosen(l: Link) -> Link {
-    let s = l.sender;
-    if s.length != 0 {
-        return l;
-    }
-    let x = chance::step(l.x);
-    let t = l.tally;
-    let tally = t.begun();
+    let lost = is_lost(x, l.preemptable, t.run);
     let mut next = l;
     next.x = x;
-    next.seed = x;
-    next.length = body_length(x);
-    next.tally = tally;
-    next
-}
-
-// The ask of a preemptable call, from two draws.
-fn ask_of(a: u32, t: u32) -> Ask {
-    if chance::one_of(a, 4) == 0 {
-        return Ask::None;
-    }
-    Ask::At(chance::one_of(t, 400) as usize)
-}
-
-fn preemptable(first: Link, space: &mut [u8], out: &mut [u8], buffer: &mut [u8]) -> Link {
-    let l = chosen(first);
-    let n = l.length;
-    let a = chance::step(l.x);
-    let x = chance::step(a);
-    chance::body(l.seed, n, space);
-    let s = l.sender;
-    let sent = send::preemptable(s, read::front(space, n), ask_of(a, x), out);
-    let answer = sent.answer;
-    let after = sent.after;
-    let mut on = l;
-    on.x = x;
-    on.sender = after;
-    match answer {
-        Answer::Wrote { length, done } => ended(fate(on, out, length, true, buffer), done),
-        Answer::Refused(_) => on,
-    }
-}
-
-// The frame's end counts it.
-fn ended(l: Link, done: bool) -> Link {
-    let t = l.tally;
-    let mut next = l;
-    if done {
-        let tally = t.ended();
+    if l.preemptable {
+        let tally = t.written(l.done, lost);
         next.tally = tally;
     }
-    next
-}
-
-fn held(l: Link) -> Link {
-    let x = chance::step(l.x);
-    let s = l.sender;
-    let hold = chance::one_of(x, 4) == 0;
-    let mut sender = s;
-    sender.hold = hold;
-    let mut next = l;
-    next.x = x;
-    next.sender = sender;
-    next
-}
-
-fn stretched(l: Link) -> Link {
-    let x = chance::step(l.x);
-    let s = l.sender;
-    let extra = (chance::one_of(x, 4) % 256) as u8;
-    let mut sender = s;
-    sender.extra = extra;
-    let mut next = l;
-    next.x = x;
-    next.sender = sender;
-    next
-}
-
-fn one_turn(before: Link, space: &mut [u8], out: &mut [u8], buffer: &mut [u8]) -> Link {
-    let x = chance::step(before.x);
-    let d = chance::one_of(x, 16);
-    let mut l = before;
-    l.x = x;
-    match d {
-        0 => express(l, space, out, buffer),
-        1 => {
-            let answer = single::verify(out);
-            written(l, answer, out, buffer)
-        }
-        2 => {
-            let answer = single::respond(out);
-            written(l, answer, out, buffer)
-        }
-        3 => held(l),
-        4 => stretched(l),
-        _ => preemptable(l, space, out, buffer),
+    if lost {
+        return next;
     }
+    arrive(next, read::front(out, l.wrote), buffer)
 }
 
 fn say_end(l: Link) -> bool {
@@ -205,45 +188,51 @@ fn say_end(l: Link) -> bool {
     say::line_end()
 }
 
-// All turns of an entry.
-fn play(first: Link, turns: u32, space: &mut [u8], out: &mut [u8], buffer: &mut [u8]) -> bool {
-    let mut l = first;
-    let mut k = turns;
-    while k > 0 && l.written {
-        l = one_turn(l, space, out, buffer);
-        k -= 1;
+fn one_turn(before: Link, out: &mut [u8; 1530], buffer: &mut [u8; 1518]) -> Link {
+    let l = send_one(before, out);
+    if l.wrote == 0 {
+        return l;
     }
-    l.written && say_end(l)
+    fate(l, out, buffer)
 }
 
-fn entry() -> Went {
-    let mut head = [0u8; 8];
-    let mut space = [0u8; 1518];
+// All turns of an entry.
+fn play(seed: u32, turns: u32) -> bool {
     let mut out = [0u8; 1530];
     let mut buffer = [0u8; 1518];
-    let went = read::first(&mut head);
-    let Went::On = went else {
-        return went;
-    };
-    let first = Link {
-        x: read::word(&head, 0),
+    let mut l = Link {
+        x: seed,
         sender: sender_record::Record::fresh(true, false, 0),
         receiver: receiver_record::Record::fresh(),
         seed: 0,
         length: 0,
         tally: Tally::NONE,
+        wrote: 0,
+        preemptable: false,
+        done: false,
         written: true,
     };
-    let turns = read::word(&head, 4);
-    Went::answered(play(first, turns, &mut space, &mut out, &mut buffer))
+    let mut k = turns;
+    while k > 0 {
+        l = one_turn(l, &mut out, &mut buffer);
+        if !l.written {
+            return false;
+        }
+        k -= 1;
+    }
+    say_end(l)
 }
 
 // A proved loop has to end, and nothing says that the input does: it counts its turns down from more than any input has.
 fn main() {
     let mut went = Went::start();
     let mut turns = u32::MAX;
-    while turns > 0 && went.goes_on(b"test_link") {
-        went = entry();
+    while turns > 0 {
+        let q = went.next(b"test_link", &[8]);
+        if !q.asked {
+            return;
+        }
+        went = Went::answered(play(q.word(0), q.word(4)));
         turns -= 1;
     }
 }

@@ -8,17 +8,23 @@ pub(crate) struct Tally {
     pub express: u32,
     pub run: u32,
     pub longest: u32,
+    // Of the frame in progress: its mFrames, and those of them that were lost.
     pub pieces: u32,
+    pub losses: u32,
     pub most: u32,
-    pub spoiled: bool,
 }
 
-fn more(n: u32) -> u32 {
-    std::num::wrapping_add_u32(n, 1)
+// One more, where that is so.
+fn plus(n: u32, so: bool) -> u32 {
+    std::num::wrapping_add_u32(n, so as u32)
 }
 
 fn greater(a: u32, b: u32) -> u32 {
     if a < b { b } else { a }
+}
+
+fn run_after(run: u32, lost: bool) -> u32 {
+    if lost { plus(run, true) } else { 0 }
 }
 
 impl Tally {
@@ -30,67 +36,36 @@ impl Tally {
         run: 0,
         longest: 0,
         pieces: 0,
+        losses: 0,
         most: 0,
-        spoiled: false,
     };
 
-    // A frame is chosen.
-    pub fn begun(self) -> Tally {
+    // A preemptable mFrame is written, the last of its frame or not, and lost or not.
+    pub fn written(self, done: bool, lost: bool) -> Tally {
+        let run = run_after(self.run, lost);
+        let pieces = plus(self.pieces, true);
+        let losses = plus(self.losses, lost);
         let mut t = self;
-        t.pieces = 0;
-        t.spoiled = false;
-        t
-    }
-
-    // An mFrame is lost.
-    pub fn lost(self, preemptable: bool) -> Tally {
-        if preemptable {
-            let run = more(self.run);
-            let pieces = more(self.pieces);
-            let mut t = self;
-            t.run = run;
-            t.longest = greater(self.longest, run);
-            t.pieces = pieces;
-            t.most = greater(self.most, pieces);
-            t.spoiled = true;
+        t.run = run;
+        t.longest = greater(self.longest, run);
+        t.pieces = pieces;
+        t.losses = losses;
+        t.most = greater(self.most, pieces);
+        if done {
+            t.sent = plus(self.sent, true);
+            t.whole = plus(self.whole, losses == 0);
+            t.pieces = 0;
+            t.losses = 0;
             return t;
         }
-        self
-    }
-
-    // An mFrame arrives.
-    pub fn arrived(self, preemptable: bool) -> Tally {
-        if preemptable {
-            let pieces = more(self.pieces);
-            let mut t = self;
-            t.run = 0;
-            t.pieces = pieces;
-            t.most = greater(self.most, pieces);
-            return t;
-        }
-        self
-    }
-
-    // A frame is sent to its end.
-    pub fn ended(self) -> Tally {
-        let mut t = self;
-        t.sent = more(self.sent);
-        if self.spoiled {
-            return t;
-        }
-        t.whole = more(self.whole);
         t
     }
 
     // The receiver answers.
     pub fn answered(self, number: u32) -> Tally {
         let mut t = self;
-        if number == 0 {
-            t.express = more(self.express);
-        }
-        if number == 1 {
-            t.delivered = more(self.delivered);
-        }
+        t.express = plus(self.express, number == 0);
+        t.delivered = plus(self.delivered, number == 1);
         t
     }
 }

@@ -1,17 +1,64 @@
-// Reads the parts of a question from standard input.
+// Reads a question from standard input: the octets of its numbers, and the octets that follow them.
 use crate::went::Went;
 use libc::STDIN_FILENO;
 ghost use Prim.Native.Nat.{_+_, _≤_};
-ghost use lib.ListN.{length};
 
-// So many octets at the front of a lent space, or that the question is broken.
-pub enum Came {
-    Whole(usize),
-    Broken,
+// The octets of a question's numbers, its kind in front, where one was asked.
+pub struct Question {
+    pub asked: bool,
+    pub octets: [u8; 32],
 }
 
-// The octets that a question begins with. Before the first of them the input may end.
-pub fn first(space: &mut [u8]) -> Went {
+impl Question {
+    pub const NONE: Question = Question {
+        asked: false,
+        octets: [0; 32],
+    };
+
+    // The question of so many octets that begins with this one.
+    pub(crate) fn begun(first: u8, size: usize) -> Question {
+        let mut octets = [first; 32];
+        let asked = part(&mut octets, 1, size);
+        Question { asked, octets }
+    }
+
+    // The numbers, by their place, low octet first.
+    pub fn octet(self, at: usize) -> u8
+        requires { ⌜ at + 1 ≤ 32 ⌝ }
+    {
+        self.octets[at]
+    }
+
+    pub fn short(self, at: usize) -> usize
+        requires { ⌜ at + 2 ≤ 32 ⌝ }
+    {
+        joined(self.octet(at), self.octet(at + 1), 0, 0) as usize
+    }
+
+    pub fn word(self, at: usize) -> u32
+        requires { ⌜ at + 4 ≤ 32 ⌝ }
+    {
+        joined(
+            self.octet(at),
+            self.octet(at + 1),
+            self.octet(at + 2),
+            self.octet(at + 3),
+        )
+    }
+
+    pub fn long(self, at: usize) -> usize
+        requires { ⌜ at + 8 ≤ 32 ⌝ }
+    {
+        self.word(at) as usize + self.word(at + 4) as usize * 4294967296
+    }
+}
+
+fn joined(a: u8, b: u8, c: u8, d: u8) -> u32 {
+    a as u32 + b as u32 * 256 + c as u32 * 65536 + d as u32 * 16777216
+}
+
+// A question's first octet. Before it the input may end.
+pub(crate) fn first(space: &mut [u8; 1]) -> Went {
     let got = libc::read(STDIN_FILENO, space);
     if got < 0 {
         return Went::Unread;
@@ -19,56 +66,24 @@ pub fn first(space: &mut [u8]) -> Went {
     if got == 0 {
         return Went::Over;
     }
-    let n = io::count(got, space);
-    if all(&mut space[n..]) {
-        Went::On
-    } else {
-        Went::Broken
-    }
+    Went::On
 }
 
-// Whether the slice was filled.
-pub fn all(space: &mut [u8]) -> bool {
-    io::read_full(STDIN_FILENO, space) == space.len()
-}
-
-// The same of its first n octets; false where it has fewer.
-pub fn part(space: &mut [u8], n: usize) -> bool {
-    if space.len() < n {
+// Whether the octets of the space from one place up to another were filled; false where it has no such part.
+pub fn part(space: &mut [u8], from: usize, to: usize) -> bool {
+    if to < from {
         return false;
     }
-    all(&mut space[0..n])
+    if space.len() < to {
+        return false;
+    }
+    io::read_full(STDIN_FILENO, &mut space[from..to]) == to - from
 }
 
-// A head that ends in a length, and so many octets.
-pub fn run(head: &mut [u8], space: &mut [u8]) -> Came
-    requires { ⌜ 2 ≤ length (now head) ⌝ }
-{
-    if !all(head) {
-        return Came::Broken;
-    }
-    let n = short(head, head.len() - 2);
-    if part(space, n) {
-        Came::Whole(n)
-    } else {
-        Came::Broken
-    }
-}
-
-// A head that ends in a length and a first octet: so many octets that no call wrote.
-pub fn lent(head: &mut [u8], space: &mut [u8]) -> Came
-    requires { ⌜ 3 ≤ length (now head) ⌝ }
-{
-    if !all(head) {
-        return Came::Broken;
-    }
-    let n = short(head, head.len() - 3);
-    let first = head[head.len() - 1];
-    if space.len() < n {
-        return Came::Broken;
-    }
-    crate::fill(&mut space[0..n], first);
-    Came::Whole(n)
+// Lent memory: the first n octets of the space, or all where there are fewer. No call wrote them: place i has the octet (first + i) modulo 256.
+pub fn lent(space: &mut [u8], n: usize, first: u8) -> &mut [u8] {
+    crate::fill(space, first);
+    front_mut(space, n)
 }
 
 // The first n octets, or all where there are fewer.
@@ -85,27 +100,4 @@ pub fn front_mut(space: &mut [u8], n: usize) -> &mut [u8] {
         return space;
     }
     &mut space[0..n]
-}
-
-// The numbers of a question's head, by their place in it, low octet first.
-pub fn short(head: &[u8], at: usize) -> usize
-    requires { ⌜ at + 2 ≤ length (now head) ⌝ }
-{
-    joined(head[at], head[at + 1], 0, 0) as usize
-}
-
-pub fn word(head: &[u8], at: usize) -> u32
-    requires { ⌜ at + 4 ≤ length (now head) ⌝ }
-{
-    joined(head[at], head[at + 1], head[at + 2], head[at + 3])
-}
-
-pub fn long(head: &[u8], at: usize) -> usize
-    requires { ⌜ at + 8 ≤ length (now head) ⌝ }
-{
-    word(head, at) as usize + word(head, at + 4) as usize * 4294967296
-}
-
-fn joined(a: u8, b: u8, c: u8, d: u8) -> u32 {
-    a as u32 + b as u32 * 256 + c as u32 * 65536 + d as u32 * 16777216
 }

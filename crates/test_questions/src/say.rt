@@ -31,13 +31,10 @@ pub fn word(n: u64) {
     io::print_hex(STDOUT_FILENO, n, 8);
 }
 
-fn joined(a: u8, b: u8, c: u8, d: u8) -> u64 {
-    a as u64 * 16777216 + b as u64 * 65536 + c as u64 * 256 + d as u64
-}
-
 // Four octets in hexadecimal digits, first octet first.
 pub fn octets(x: [u8; 4]) {
-    word(joined(x[0], x[1], x[2], x[3]));
+    text(b" ");
+    hex_octets(&x);
 }
 
 // Any number of octets, each in two digits.

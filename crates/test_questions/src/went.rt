@@ -1,5 +1,6 @@
 // How a question went. The first that does not go on ends its program, which says why, once: a program has no exit status.
 use crate::read;
+use crate::read::Question;
 use libc::STDERR_FILENO;
 use libc::STDIN_FILENO;
 
@@ -15,12 +16,6 @@ pub enum Went {
     Broken,
     // The answer could not be written.
     Unwritten,
-}
-
-// The first octet of a question, or that the program is at its end.
-pub enum Next {
-    Question(u8),
-    None,
 }
 
 impl Went {
@@ -53,18 +48,37 @@ impl Went {
         false
     }
 
-    // The same, and which question comes next.
-    pub fn next(self, name: &[u8]) -> Next {
+    // The question that comes next, of one of these sizes; none where the program does not go on.
+    pub fn next(self, name: &[u8], sizes: &[usize]) -> Question {
         if !self.goes_on(name) {
-            return Next::None;
+            return Question::NONE;
         }
         let mut first = [0u8; 1];
         let went = read::first(&mut first);
-        if went.goes_on(name) {
-            return Next::Question(first[0]);
+        if !went.goes_on(name) {
+            return Question::NONE;
         }
-        Next::None
+        let first = first[0];
+        let question = Question::begun(first, size_of(first, sizes));
+        if question.asked {
+            return question;
+        }
+        Went::Broken.goes_on(name);
+        question
     }
+}
+
+// How many octets the numbers of a question take, which begins with its kind: the size of that kind, or 0 where there is no such kind. Where
+// only one size is given, questions have no kind.
+fn size_of(kind: u8, sizes: &[usize]) -> usize {
+    if sizes.len() == 1 {
+        return sizes[0];
+    }
+    let at = kind as usize;
+    if at < sizes.len() {
+        return sizes[at];
+    }
+    0
 }
 
 fn say(words: &[u8]) {

@@ -6,9 +6,8 @@ use receiver_answers::Answer;
 use receiver_record::Counters;
 use receiver_record::Record;
 use test_questions::read;
-use test_questions::read::Came;
+use test_questions::read::Question;
 use test_questions::say;
-use test_questions::went::Next;
 use test_questions::went::Went;
 
 // What is kept from question to question: the record, how many octets of the lent space are the buffer, and how the last one went.
@@ -22,23 +21,19 @@ fn after(kept: Kept, went: Went) -> Kept {
     Kept { went, ..kept }
 }
 
-fn record(kept: Kept) -> Kept {
-    let mut x = [0u8; 31];
-    if !read::all(&mut x) {
-        return after(kept, Went::Broken);
-    }
+fn record(kept: Kept, q: Question) -> Kept {
     Kept {
         record: Record {
-            assembling: x[0] != 0,
-            frame: FrameCount(x[1]),
-            fragment: FragmentCount(x[2]),
-            kept: read::long(&x, 3),
-            running: read::word(&x, 11),
+            assembling: q.octet(1) != 0,
+            frame: FrameCount(q.octet(2)),
+            fragment: FragmentCount(q.octet(3)),
+            kept: q.long(4),
+            running: q.word(12),
             counters: Counters {
-                errors: read::word(&x, 15),
-                delimiters: read::word(&x, 19),
-                assembled: read::word(&x, 23),
-                fragments: read::word(&x, 27),
+                errors: q.word(16),
+                delimiters: q.word(20),
+                assembled: q.word(24),
+                fragments: q.word(28),
             },
         },
         buffer: kept.buffer,
@@ -46,11 +41,11 @@ fn record(kept: Kept) -> Kept {
     }
 }
 
-fn buffer(kept: Kept, space: &mut [u8]) -> Kept {
-    let mut head = [0u8; 3];
-    let Came::Whole(n) = read::lent(&mut head, space) else {
+fn buffer(kept: Kept, q: Question, space: &mut [u8]) -> Kept {
+    let n = q.short(1);
+    if read::lent(space, n, q.octet(3)).len() < n {
         return after(kept, Went::Broken);
-    };
+    }
     Kept { buffer: n, ..kept }
 }
 
@@ -112,12 +107,12 @@ fn receive_into(kept: Kept, mframe: &[u8], buffer: &mut [u8]) -> Kept {
     }
 }
 
-fn mframe(kept: Kept, space: &mut [u8]) -> Kept {
-    let mut head = [0u8; 2];
+fn mframe(kept: Kept, q: Question, space: &mut [u8]) -> Kept {
     let mut octets = [0u8; 2048];
-    let Came::Whole(n) = read::run(&mut head, &mut octets) else {
+    let n = q.short(1);
+    if !read::part(&mut octets, 0, n) {
         return after(kept, Went::Broken);
-    };
+    }
     receive_into(
         kept,
         read::front(&octets, n),
@@ -125,12 +120,14 @@ fn mframe(kept: Kept, space: &mut [u8]) -> Kept {
     )
 }
 
-fn question(kind: u8, kept: Kept, space: &mut [u8]) -> Kept {
-    match kind {
-        1 => record(kept),
-        2 => buffer(kept, space),
-        3 => mframe(kept, space),
-        _ => after(kept, Went::Broken),
+// The octets that the numbers of each kind of question take.
+const SIZES: [usize; 4] = [0, 32, 4, 3];
+
+fn question(kept: Kept, q: Question, space: &mut [u8]) -> Kept {
+    match q.octet(0) {
+        1 => record(kept, q),
+        2 => buffer(kept, q, space),
+        _ => mframe(kept, q, space),
     }
 }
 
@@ -145,10 +142,11 @@ fn main() {
     let mut turns = u32::MAX;
     while turns > 0 {
         let went = kept.went;
-        let Next::Question(kind) = went.next(b"test_receive") else {
+        let q = went.next(b"test_receive", &SIZES);
+        if !q.asked {
             return;
-        };
-        kept = question(kind, kept, &mut space);
+        }
+        kept = question(kept, q, &mut space);
         turns -= 1;
     }
 }

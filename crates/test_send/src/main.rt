@@ -6,9 +6,8 @@ use cut::Ask;
 use sender_answers::Answer;
 use sender_record::Record;
 use test_questions::read;
-use test_questions::read::Came;
+use test_questions::read::Question;
 use test_questions::say;
-use test_questions::went::Next;
 use test_questions::went::Went;
 
 // What is kept from question to question: the record, how many octets of the lent space are the body, and how the last one went.
@@ -49,86 +48,63 @@ fn say_record(r: Record) {
     say::small(fragment.0);
 }
 
-fn express_into(body: &[u8], out: &mut [u8]) -> bool {
-    say::text(b"express");
-    say_answer(single::express(body, out), out);
-    say::line_end()
-}
-
-fn order_into(verify: bool, out: &mut [u8]) -> bool {
-    if verify {
-        say::text(b"verify");
-        say_answer(single::verify(out), out);
-        return say::line_end();
-    }
-    say::text(b"respond");
-    say_answer(single::respond(out), out);
-    say::line_end()
-}
-
-fn preemptable_into(kept: Kept, body: &[u8], ask: Ask, out: &mut [u8]) -> Kept {
-    let r = kept.record;
-    let sent = send::preemptable(r, body, ask, out);
-    let answer = sent.answer;
-    let record = sent.after;
-    say::text(b"preemptable");
+// The answer of a call that keeps no record, behind the call's name.
+fn answered(name: &[u8], answer: Answer, out: &[u8]) -> Went {
+    say::text(name);
     say_answer(answer, out);
-    say_record(record);
-    Kept {
-        record,
-        body: kept.body,
-        went: Went::answered(say::line_end()),
-    }
+    Went::answered(say::line_end())
 }
 
-fn express() -> Went {
-    let mut head = [0u8; 5];
+fn express(q: Question) -> Went {
     let mut body = [0u8; 2048];
     let mut space = [0u8; 2048];
-    let Came::Whole(room) = read::lent(&mut head, &mut space) else {
-        return Went::Broken;
-    };
-    let n = read::short(&head, 0);
-    if !read::part(&mut body, n) {
+    let n = q.short(1);
+    let room = q.short(3);
+    if !read::part(&mut body, 0, n) {
         return Went::Broken;
     }
-    Went::answered(express_into(read::front(&body, n), read::front_mut(&mut space, room)))
+    let out = read::lent(&mut space, room, q.octet(5));
+    if out.len() < room {
+        return Went::Broken;
+    }
+    answered(b"express", single::express(read::front(&body, n), out), out)
 }
 
-fn order(verify: bool) -> Went {
-    let mut head = [0u8; 3];
+// A call that is given nothing but memory: verify or respond.
+fn order(q: Question, verify: bool) -> Went {
     let mut space = [0u8; 2048];
-    let Came::Whole(room) = read::lent(&mut head, &mut space) else {
+    let room = q.short(1);
+    let out = read::lent(&mut space, room, q.octet(3));
+    if out.len() < room {
         return Went::Broken;
-    };
-    Went::answered(order_into(verify, read::front_mut(&mut space, room)))
+    }
+    if verify {
+        return answered(b"verify", single::verify(out), out);
+    }
+    answered(b"respond", single::respond(out), out)
 }
 
-fn record(kept: Kept) -> Kept {
-    let mut x = [0u8; 21];
-    if !read::all(&mut x) {
-        return after(kept, Went::Broken);
-    }
+fn record(kept: Kept, q: Question) -> Kept {
     Kept {
         record: Record {
-            active: x[0] != 0,
-            hold: x[1] != 0,
-            extra: x[2],
-            next: FrameCount(x[3]),
-            length: read::long(&x, 4),
-            sent: read::long(&x, 12),
-            fragment: FragmentCount(x[20]),
+            active: q.octet(1) != 0,
+            hold: q.octet(2) != 0,
+            extra: q.octet(3),
+            next: FrameCount(q.octet(4)),
+            length: q.long(5),
+            sent: q.long(13),
+            fragment: FragmentCount(q.octet(21)),
         },
         body: kept.body,
         went: Went::On,
     }
 }
 
-fn body(kept: Kept, space: &mut [u8]) -> Kept {
-    let mut head = [0u8; 2];
-    let Came::Whole(n) = read::run(&mut head, space) else {
+fn body(kept: Kept, q: Question, space: &mut [u8; 2048]) -> Kept {
+    let n = q.short(1);
+    if !read::part(space, 0, n) {
         return after(kept, Went::Broken);
-    };
+    }
     Kept { body: n, ..kept }
 }
 
@@ -136,47 +112,48 @@ fn ask_of(asked: u8, t: usize) -> Ask {
     if asked == 0 { Ask::None } else { Ask::At(t) }
 }
 
-fn preemptable(kept: Kept, body: &[u8]) -> Kept {
-    let mut head = [0u8; 12];
+fn preemptable(kept: Kept, q: Question, body: &[u8; 2048]) -> Kept {
     let mut space = [0u8; 2048];
-    let Came::Whole(room) = read::lent(&mut head, &mut space) else {
-        return after(kept, Went::Broken);
-    };
-    preemptable_into(
-        kept,
-        read::front(body, kept.body),
-        ask_of(head[0], read::long(&head, 1)),
-        read::front_mut(&mut space, room),
-    )
-}
-
-fn settings(kept: Kept) -> Kept {
-    let mut x = [0u8; 3];
-    if !read::all(&mut x) {
+    let room = q.short(10);
+    let out = read::lent(&mut space, room, q.octet(12));
+    if out.len() < room {
         return after(kept, Went::Broken);
     }
     let r = kept.record;
+    let n = kept.body;
+    let sent = send::preemptable(r, read::front(body, n), ask_of(q.octet(1), q.long(2)), out);
+    let answer = sent.answer;
+    let record = sent.after;
+    say::text(b"preemptable");
+    say_answer(answer, out);
+    say_record(record);
     Kept {
-        record: Record {
-            active: x[0] != 0,
-            hold: x[1] != 0,
-            extra: x[2],
-            ..r
-        },
-        ..kept
+        record,
+        body: n,
+        went: Went::answered(say::line_end()),
     }
 }
 
-fn question(kind: u8, kept: Kept, space: &mut [u8]) -> Kept {
-    match kind {
-        1 => after(kept, express()),
-        2 => after(kept, order(true)),
-        3 => after(kept, order(false)),
-        4 => record(kept),
-        5 => body(kept, space),
-        6 => preemptable(kept, space),
-        7 => settings(kept),
-        _ => after(kept, Went::Broken),
+fn settings(kept: Kept, q: Question) -> Kept {
+    let mut record = kept.record;
+    record.active = q.octet(1) != 0;
+    record.hold = q.octet(2) != 0;
+    record.extra = q.octet(3);
+    Kept { record, ..kept }
+}
+
+// The octets that the numbers of each kind of question take.
+const SIZES: [usize; 8] = [0, 6, 4, 4, 22, 3, 13, 4];
+
+fn question(kept: Kept, q: Question, space: &mut [u8; 2048]) -> Kept {
+    match q.octet(0) {
+        1 => after(kept, express(q)),
+        2 => after(kept, order(q, true)),
+        3 => after(kept, order(q, false)),
+        4 => record(kept, q),
+        5 => body(kept, q, space),
+        6 => preemptable(kept, q, space),
+        _ => settings(kept, q),
     }
 }
 
@@ -191,10 +168,11 @@ fn main() {
     let mut turns = u32::MAX;
     while turns > 0 {
         let went = kept.went;
-        let Next::Question(kind) = went.next(b"test_send") else {
+        let q = went.next(b"test_send", &SIZES);
+        if !q.asked {
             return;
-        };
-        kept = question(kind, kept, &mut space);
+        }
+        kept = question(kept, q, &mut space);
         turns -= 1;
     }
 }

@@ -1,8 +1,7 @@
 // Runs the stored questions on link verification. tests/reference/README.md has the format of both files; the answers expected come from
 // the reference alone.
-use test_questions::read;
+use test_questions::read::Question;
 use test_questions::say;
-use test_questions::went::Next;
 use test_questions::went::Went;
 use verify::Answer;
 use verify::Event;
@@ -70,29 +69,29 @@ fn after(kept: Kept, went: Went) -> Kept {
     Kept { went, ..kept }
 }
 
-fn record(kept: Kept) -> Kept {
-    let mut x = [0u8; 4];
-    if !read::all(&mut x) || 3 < x[0] {
+fn record(kept: Kept, q: Question) -> Kept {
+    let phase = q.octet(1);
+    if 3 < phase {
         return after(kept, Went::Broken);
     }
     Kept {
         record: Record {
-            phase: phase_of(x[0]),
-            attempt: x[1],
-            left: x[2],
-            owed: x[3] != 0,
+            phase: phase_of(phase),
+            attempt: q.octet(2),
+            left: q.octet(3),
+            owed: q.octet(4) != 0,
         },
         went: Went::On,
     }
 }
 
-fn event(kept: Kept) -> Kept {
-    let mut x = [0u8; 1];
-    if !read::all(&mut x) || 6 < x[0] {
+fn event(kept: Kept, q: Question) -> Kept {
+    let number = q.octet(1);
+    if 6 < number {
         return after(kept, Went::Broken);
     }
     let r = kept.record;
-    let stepped = verify::step(r, event_of(x[0]));
+    let stepped = verify::step(r, event_of(number));
     let answer = stepped.answer;
     let record = stepped.after;
     say_answer(answer);
@@ -103,11 +102,13 @@ fn event(kept: Kept) -> Kept {
     }
 }
 
-fn question(kind: u8, kept: Kept) -> Kept {
-    match kind {
-        1 => record(kept),
-        2 => event(kept),
-        _ => after(kept, Went::Broken),
+// The octets that the numbers of each kind of question take.
+const SIZES: [usize; 3] = [0, 5, 2];
+
+fn question(kept: Kept, q: Question) -> Kept {
+    match q.octet(0) {
+        1 => record(kept, q),
+        _ => event(kept, q),
     }
 }
 
@@ -120,10 +121,11 @@ fn main() {
     let mut turns = u32::MAX;
     while turns > 0 {
         let went = kept.went;
-        let Next::Question(kind) = went.next(b"test_verify") else {
+        let q = went.next(b"test_verify", &SIZES);
+        if !q.asked {
             return;
-        };
-        kept = question(kind, kept);
+        }
+        kept = question(kept, q);
         turns -= 1;
     }
 }

@@ -7,36 +7,29 @@ use sender_record::Record;
 use test_questions::say;
 use test_questions::went::Went;
 
-fn say_length(what: &[u8], answer: Answer) -> bool {
+fn say_length(what: &[u8], answer: Answer) {
     say::text(what);
     match answer {
         Answer::Wrote { length, done: _ } => say::number(length as u64),
         Answer::Refused(_) => say::text(b" refused"),
     }
-    say::line_end()
+    say::line_end();
 }
 
-// The photograph, whole, as a port that isn't active sends it.
-fn whole(body: &[u8], out: &mut [u8]) -> bool {
-    let sent = send::preemptable(Record::fresh(false, false, 0), body, Ask::None, out);
+// The next mFrame of the photograph, and the record after it.
+fn photograph(what: &[u8], record: Record, ask: Ask) -> Record {
+    let body = [0u8; 1518];
+    let mut out = [0u8; 1530];
+    let sent = send::preemptable(record, &body, ask, &mut out);
     let answer = sent.answer;
-    say_length(b"photograph whole", answer)
+    say_length(what, answer);
+    sent.after
 }
 
-// The photograph, asked at its first octet to make way, the press, and the rest.
-fn broken(body: &[u8], press: &[u8], out: &mut [u8]) -> bool {
-    let first = send::preemptable(Record::fresh(true, false, 0), body, Ask::At(0), out);
-    let answer = first.answer;
-    let record = first.after;
-    if !say_length(b"photograph first", answer) {
-        return false;
-    }
-    if !say_length(b"press", single::express(press, out)) {
-        return false;
-    }
-    let rest = send::preemptable(record, body, Ask::None, out);
-    let last = rest.answer;
-    say_length(b"photograph rest", last)
+fn press() {
+    let body = [0u8; 60];
+    let mut out = [0u8; 1530];
+    say_length(b"press", single::express(&body, &mut out));
 }
 
 // The octets of an mFrame behind the ask: what is left of the frame, or the part up to the cut and its check octets.
@@ -77,16 +70,22 @@ fn most(longest: usize) -> usize {
     greater(most, most_of(longest))
 }
 
-fn longest() -> bool {
+// The photograph, whole, as a port that isn't active sends it; then asked at its first octet to make way, the press, and the rest; then the
+// longest wait. An output that did not take a line does not take the last one's end either, so that nobody else has to ask.
+fn main() {
+    photograph(
+        b"photograph whole",
+        Record::fresh(false, false, 0),
+        Ask::None,
+    );
+    let cut = photograph(
+        b"photograph first",
+        Record::fresh(true, false, 0),
+        Ask::At(0),
+    );
+    press();
+    photograph(b"photograph rest", cut, Ask::None);
     say::text(b"longest wait cut");
     say::number(most(1522) as u64);
-    say::line_end()
-}
-
-fn main() {
-    let body = [0u8; 1518];
-    let press = [0u8; 60];
-    let mut out = [0u8; 1530];
-    let written = whole(&body, &mut out) && broken(&body, &press, &mut out) && longest();
-    Went::answered(written).goes_on(b"test_waits");
+    Went::answered(say::line_end()).goes_on(b"test_waits");
 }

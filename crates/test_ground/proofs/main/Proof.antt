@@ -6,10 +6,10 @@ use Rattle.test_ground.proofs.main.Statement.{statement}
 use Rattle.test_ground.proofs.main.Tie as tie
 
 abbrev Inv-loop : tie.InvT-loop
-Inv-loop went₀ turns₀ t4 went turns = Unit {0}
+Inv-loop went₀ turns₀ t4 t5 went turns = Unit {0}
 
 abbrev μ-loop : tie.MeasureT-loop
-μ-loop went₀ turns₀ t4 went turns = turns
+μ-loop went₀ turns₀ t4 t5 went turns = turns
 
 start-requires : tie.Need-start-requires Inv-loop μ-loop
 start-requires c κs = search needs
@@ -20,14 +20,11 @@ loop-holds c = tt
 slice-aggregate-next : tie.Need-slice-aggregate-next Inv-loop μ-loop
 slice-aggregate-next c = search needs
 
+slice-aggregate-next-2 : tie.Need-slice-aggregate-next-2 Inv-loop μ-loop
+slice-aggregate-next-2 c = search needs
+
 next-requires : tie.Need-next-requires Inv-loop μ-loop
 next-requires c κs = search needs
-
-enum-known-kind : tie.Need-enum-known-kind Inv-loop μ-loop
-enum-known-kind c = search needs
-
-enum-told : tie.Need-enum-told Inv-loop μ-loop
-enum-told c = search needs
 
 returns : tie.Need-returns Inv-loop μ-loop
 returns c = search needs
@@ -56,9 +53,8 @@ main-spec =
     start-requires
     loop-holds
     slice-aggregate-next
+    slice-aggregate-next-2
     next-requires
-    enum-known-kind
-    enum-told
     returns
     question-requires
     sub-turns

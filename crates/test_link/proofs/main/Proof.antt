@@ -6,10 +6,10 @@ use Rattle.test_link.proofs.main.Statement.{statement}
 use Rattle.test_link.proofs.main.Tie as tie
 
 abbrev Inv-loop : tie.InvT-loop
-Inv-loop went₀ turns₀ t3 went turns = Unit {0}
+Inv-loop went₀ turns₀ t4 t5 went turns = Unit {0}
 
 abbrev μ-loop : tie.MeasureT-loop
-μ-loop went₀ turns₀ t3 went turns = turns
+μ-loop went₀ turns₀ t4 t5 went turns = turns
 
 start-requires : tie.Need-start-requires Inv-loop μ-loop
 start-requires c κs = search needs
@@ -17,14 +17,29 @@ start-requires c κs = search needs
 loop-holds : tie.Need-loop-holds Inv-loop μ-loop
 loop-holds c = tt
 
-slice-aggregate-goes-on : tie.Need-slice-aggregate-goes-on Inv-loop μ-loop
-slice-aggregate-goes-on c = search needs
+slice-aggregate-next : tie.Need-slice-aggregate-next Inv-loop μ-loop
+slice-aggregate-next c = search needs
 
-goes-on-requires : tie.Need-goes-on-requires Inv-loop μ-loop
-goes-on-requires c κs = search needs
+slice-aggregate-next-2 : tie.Need-slice-aggregate-next-2 Inv-loop μ-loop
+slice-aggregate-next-2 c = search needs
 
-entry-requires : tie.Need-entry-requires Inv-loop μ-loop
-entry-requires c κs = search needs
+next-requires : tie.Need-next-requires Inv-loop μ-loop
+next-requires c κs = search needs
+
+returns : tie.Need-returns Inv-loop μ-loop
+returns c = search needs
+
+word-requires : tie.Need-word-requires Inv-loop μ-loop
+word-requires c κs = search needs
+
+word-requires-2 : tie.Need-word-requires-2 Inv-loop μ-loop
+word-requires-2 c κs = search needs
+
+play-requires : tie.Need-play-requires Inv-loop μ-loop
+play-requires c κs = search needs
+
+answered-requires : tie.Need-answered-requires Inv-loop μ-loop
+answered-requires c κs = search needs
 
 sub-turns : tie.Need-sub-turns Inv-loop μ-loop
 sub-turns c = omega arith
@@ -34,9 +49,6 @@ loop-less c = omega arith
 
 loop-again : tie.Need-loop-again Inv-loop μ-loop
 loop-again c = tt
-
-returns : tie.Need-returns Inv-loop μ-loop
-returns c = search needs
 
 returns-2 : tie.Need-returns-2 Inv-loop μ-loop
 returns-2 c = search needs
@@ -49,11 +61,15 @@ main-spec =
     μ-loop
     start-requires
     loop-holds
-    slice-aggregate-goes-on
-    goes-on-requires
-    entry-requires
+    slice-aggregate-next
+    slice-aggregate-next-2
+    next-requires
+    returns
+    word-requires
+    word-requires-2
+    play-requires
+    answered-requires
     sub-turns
     loop-less
     loop-again
-    returns
     returns-2)

@@ -8,10 +8,10 @@ use Rattle.test_receive.proofs.main.Statement.{statement}
 use Rattle.test_receive.proofs.main.Tie as tie
 
 abbrev Inv-loop : tie.InvT-loop
-Inv-loop space₀ kept₀ turns₀ t6 space kept turns = 2048 ≡ length space
+Inv-loop space₀ kept₀ turns₀ t6 t7 space kept turns = 2048 ≡ length space
 
 abbrev μ-loop : tie.MeasureT-loop
-μ-loop space₀ kept₀ turns₀ t6 space kept turns = turns
+μ-loop space₀ kept₀ turns₀ t6 t7 space kept turns = turns
 
 fresh-requires : tie.Need-fresh-requires Inv-loop μ-loop
 fresh-requires c κs = search needs
@@ -25,14 +25,11 @@ loop-holds c = search needs
 slice-aggregate-next : tie.Need-slice-aggregate-next Inv-loop μ-loop
 slice-aggregate-next c = search needs
 
+slice-aggregate-next-2 : tie.Need-slice-aggregate-next-2 Inv-loop μ-loop
+slice-aggregate-next-2 c = search needs
+
 next-requires : tie.Need-next-requires Inv-loop μ-loop
 next-requires c κs = search needs
-
-enum-known-kind : tie.Need-enum-known-kind Inv-loop μ-loop
-enum-known-kind c = search needs
-
-enum-told : tie.Need-enum-told Inv-loop μ-loop
-enum-told c = search needs
 
 returns : tie.Need-returns Inv-loop μ-loop
 returns c = search needs
@@ -65,9 +62,8 @@ main-spec =
     start-requires
     loop-holds
     slice-aggregate-next
+    slice-aggregate-next-2
     next-requires
-    enum-known-kind
-    enum-told
     returns
     slice-aggregate-question
     question-requires

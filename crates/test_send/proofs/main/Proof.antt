@@ -1,17 +1,15 @@
 -- `test_send::main` is safe and ends: its turns are counted down.
 -- Assumes nothing.
-use mathlib.Core.Path.{_≡_}
 use native.Mathlib.Omega.{arith}
 use borrow.Author.Needs.{needs}
-use lib.ListN.{length}
 use Rattle.test_send.proofs.main.Statement.{statement}
 use Rattle.test_send.proofs.main.Tie as tie
 
 abbrev Inv-loop : tie.InvT-loop
-Inv-loop space₀ kept₀ turns₀ t6 space kept turns = 2048 ≡ length space
+Inv-loop space₀ kept₀ turns₀ t6 t7 space kept turns = Unit {0}
 
 abbrev μ-loop : tie.MeasureT-loop
-μ-loop space₀ kept₀ turns₀ t6 space kept turns = turns
+μ-loop space₀ kept₀ turns₀ t6 t7 space kept turns = turns
 
 fresh-requires : tie.Need-fresh-requires Inv-loop μ-loop
 fresh-requires c κs = search needs
@@ -20,25 +18,19 @@ start-requires : tie.Need-start-requires Inv-loop μ-loop
 start-requires c κs = search needs
 
 loop-holds : tie.Need-loop-holds Inv-loop μ-loop
-loop-holds c = search needs
+loop-holds c = tt
 
 slice-aggregate-next : tie.Need-slice-aggregate-next Inv-loop μ-loop
 slice-aggregate-next c = search needs
 
+slice-aggregate-next-2 : tie.Need-slice-aggregate-next-2 Inv-loop μ-loop
+slice-aggregate-next-2 c = search needs
+
 next-requires : tie.Need-next-requires Inv-loop μ-loop
 next-requires c κs = search needs
 
-enum-known-kind : tie.Need-enum-known-kind Inv-loop μ-loop
-enum-known-kind c = search needs
-
-enum-told : tie.Need-enum-told Inv-loop μ-loop
-enum-told c = search needs
-
 returns : tie.Need-returns Inv-loop μ-loop
 returns c = search needs
-
-slice-aggregate-question : tie.Need-slice-aggregate-question Inv-loop μ-loop
-slice-aggregate-question c = search needs
 
 question-requires : tie.Need-question-requires Inv-loop μ-loop
 question-requires c κs = search needs
@@ -50,7 +42,7 @@ loop-less : tie.Need-loop-less Inv-loop μ-loop
 loop-less c = omega arith
 
 loop-again : tie.Need-loop-again Inv-loop μ-loop
-loop-again c = search needs
+loop-again c = tt
 
 returns-2 : tie.Need-returns-2 Inv-loop μ-loop
 returns-2 c = search needs
@@ -65,11 +57,9 @@ main-spec =
     start-requires
     loop-holds
     slice-aggregate-next
+    slice-aggregate-next-2
     next-requires
-    enum-known-kind
-    enum-told
     returns
-    slice-aggregate-question
     question-requires
     sub-turns
     loop-less

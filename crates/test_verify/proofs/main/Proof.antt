@@ -6,10 +6,10 @@ use Rattle.test_verify.proofs.main.Statement.{statement}
 use Rattle.test_verify.proofs.main.Tie as tie
 
 abbrev Inv-loop : tie.InvT-loop
-Inv-loop kept₀ turns₀ t5 kept turns = Unit {0}
+Inv-loop kept₀ turns₀ t5 t6 kept turns = Unit {0}
 
 abbrev μ-loop : tie.MeasureT-loop
-μ-loop kept₀ turns₀ t5 kept turns = turns
+μ-loop kept₀ turns₀ t5 t6 kept turns = turns
 
 fresh-requires : tie.Need-fresh-requires Inv-loop μ-loop
 fresh-requires c κs = search needs
@@ -23,14 +23,11 @@ loop-holds c = tt
 slice-aggregate-next : tie.Need-slice-aggregate-next Inv-loop μ-loop
 slice-aggregate-next c = search needs
 
+slice-aggregate-next-2 : tie.Need-slice-aggregate-next-2 Inv-loop μ-loop
+slice-aggregate-next-2 c = search needs
+
 next-requires : tie.Need-next-requires Inv-loop μ-loop
 next-requires c κs = search needs
-
-enum-known-kind : tie.Need-enum-known-kind Inv-loop μ-loop
-enum-known-kind c = search needs
-
-enum-told : tie.Need-enum-told Inv-loop μ-loop
-enum-told c = search needs
 
 returns : tie.Need-returns Inv-loop μ-loop
 returns c = search needs
@@ -60,9 +57,8 @@ main-spec =
     start-requires
     loop-holds
     slice-aggregate-next
+    slice-aggregate-next-2
     next-requires
-    enum-known-kind
-    enum-told
     returns
     question-requires
     sub-turns
