@@ -14,7 +14,7 @@ use test_questions::went::Went;
 // (none: no octets), and whether its answer could be put out.
 struct Link {
     x: u32,
-    sender: send::Record,
+    sender: sender_record::Record,
     receiver: receiver_record::Record,
     seed: u32,
     length: usize,

@@ -5,6 +5,6 @@ use mathlib.Core.List.{List}
 use Prim.Native.Nat.{ℕ}
 use Rattle.text.specs.Text.{Put}
 
--- octet, words, number, next_number, and the lines of the listing
+-- No second answer meets a promise of this crate.
 pub put-once : (p : List ℕ) (at : ℕ) (out : List ℕ) {r s : ℕ} {x y : List ℕ} → Put p at out r x → Put p at out s y → (r ≡ s) × (x ≡ y)
 put-once p at out a b = (a .place ∙ sym (b .place), a .octets ∙ sym (b .octets))
