@@ -4,7 +4,6 @@ use native.Mathlib.Omega.{arith}
 use borrow.Author.Needs.{needs}
 use Rattle.test_link.proofs.play.Statement.{statement}
 use Rattle.test_link.proofs.play.Tie as tie
-use Rattle.sender_record.proofs.Record.fresh.Reads as Record-fresh-reads′
 
 abbrev Inv-loop : tie.InvT-loop
 Inv-loop seed turns out₀ buffer₀ l₀ k₀ out buffer l k = Unit {0}
