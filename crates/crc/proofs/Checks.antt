@@ -5,7 +5,7 @@ use mathlib.Core.List.{[], _∷_}
 use Prim.Native.Nat.{ℕ, _-_, _/_, _%_, _^_, _<_}
 use native.Mathlib.Omega.{arith}
 use lib.Bits.{bitXor, bitAnd, xor-shr, xor-mod, xor-zero-r, xor-add-and, and-mask}
-use Rattle.octets.specs.Word.{octetsOf}
+use Rattle.fours.specs.Word.{octetsOf}
 use Rattle.crc.specs.Crc.{allOnes, fcsOf, inverted, mcrcOf}
 
 pub fcs-octets : (r : ℕ) → octetsOf (allOnes - r) ≡ fcsOf r

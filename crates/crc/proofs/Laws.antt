@@ -8,8 +8,8 @@ use native.Mathlib.Omega.{arith}
 use lib.Bits.{bitXor, xor-lt}
 use lib.ListN.{length, take, drop, getD, drop-of-length-le}
 use lib.Seq.{drop-cons}
-use Rattle.octets.specs.Word.{octetsOf}
-use Rattle.octets.proofs.Words.{octets-inj}
+use Rattle.fours.specs.Word.{octetsOf}
+use Rattle.fours.proofs.Words.{octets-inj}
 use Rattle.crc.specs.Crc.{polynomial, bitStep, bitSteps, octetStep, registerOver, allOnes, fcsOf, inverted, mcrcOf}
 
 -- more octets go on from the register of those before

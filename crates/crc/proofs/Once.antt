@@ -3,8 +3,8 @@
 use mathlib.Core.Path.{_≡_, sym, _∙_}
 use mathlib.Core.List.{List}
 use Prim.Native.Nat.{ℕ, _^_, _<_}
-use Rattle.octets.specs.Word.{octetsOf}
-use Rattle.octets.proofs.Words.{octets-inj}
+use Rattle.fours.specs.Word.{octetsOf}
+use Rattle.fours.proofs.Words.{octets-inj}
 use Rattle.crc.specs.Crc.{registerOver, fcsOf, mcrcOf}
 
 -- over

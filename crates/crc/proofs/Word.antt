@@ -8,7 +8,7 @@ use native.Mathlib.Omega.{arith}
 use lib.Bits.{bitXor, xor-shifted, xor-comm, xor-zero-l}
 use lib.ListN.{length, drop, getD}
 use Rattle.crc.specs.Crc.{polynomial, bitStep, bitSteps, octetStep, registerOver}
-use Rattle.octets.specs.Word.{wordAt}
+use Rattle.fours.specs.Word.{wordAt}
 use Rattle.crc.proofs.Laws.{register-turn}
 use Rattle.crc.proofs.Linear.{steps-xor, steps-shifted, steps-add}
 use Rattle.crc.proofs.Xor.{xor-assoc}

@@ -4,7 +4,7 @@ use mathlib.Core.List.{List, [], _∷_, _++_, map}
 use Prim.Native.Nat.{ℕ, zero, suc, _-_, _*_, _/_, _%_}
 use lib.Bits.{bitXor}
 use lib.ListN.{take, drop}
-use Rattle.octets.specs.Word.{octetsOf}
+use Rattle.fours.specs.Word.{octetsOf}
 
 -- the polynomial, reflected
 abbrev pub polynomial : ℕ

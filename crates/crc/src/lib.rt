@@ -2,7 +2,7 @@
 ghost use mathlib.Core.Path.{_≡_};
 ghost use Prim.Native.Nat.{_≤_};
 ghost use lib.ListN.{length, drop};
-ghost use Rattle.octets.specs.Word.{octetsOf};
+ghost use Rattle.fours.specs.Word.{octetsOf};
 ghost use Rattle.crc.specs.Crc.{bitStep, bitSteps, registerOver, fcsOf, mcrcOf};
 
 // The register before a frame's first octet.
@@ -60,7 +60,7 @@ pub fn over(register: u32, octets: &[u8]) -> u32
     let mut r = register;
     let mut k = 0u32;
     while k < n {
-        r = steps(r ^ octets::load(octets, (k as usize) * 4), 32);
+        r = steps(r ^ fours::load(octets, (k as usize) * 4), 32);
         k += 1;
     }
     rest(r, octets, (n as usize) * 4)
@@ -83,12 +83,12 @@ pub fn mcrc_word(register: u32) -> u32
 pub fn fcs(register: u32) -> [u8; 4]
     ensures { λ r. ⌜ r ≡ fcsOf register ⌝ }
 {
-    octets::split(fcs_word(register))
+    fours::split(fcs_word(register))
 }
 
 // The mCRC of a register.
 pub fn mcrc(register: u32) -> [u8; 4]
     ensures { λ r. ⌜ r ≡ mcrcOf register ⌝ }
 {
-    octets::split(mcrc_word(register))
+    fours::split(mcrc_word(register))
 }

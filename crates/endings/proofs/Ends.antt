@@ -6,8 +6,8 @@ use Prim.Native.Nat.{ℕ, _-_, _≤_, _<_}
 use native.Mathlib.Omega.{arith}
 use lib.ListN.{length, getD, length-drop}
 use lib.Seq.{take-all}
-use Rattle.octets.specs.Word.{wordAt, octetsOf}
-use Rattle.octets.proofs.Words.{octets-of-word}
+use Rattle.fours.specs.Word.{wordAt, octetsOf}
+use Rattle.fours.proofs.Words.{octets-of-word}
 use Rattle.endings.specs.Judge.{lastFour}
 
 -- the last four octets are those of the last word

@@ -22,7 +22,7 @@ pub fn judge(register: u32, octets: &[u8]) -> Ending
     }
     let data = n - 4;
     let after = crc::over(register, &octets[0..data]);
-    let last = octets::load(octets, data);
+    let last = fours::load(octets, data);
     if last == crc::fcs_word(after) {
         return Ending::Done(data);
     }

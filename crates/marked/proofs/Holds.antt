@@ -3,7 +3,7 @@
 use mathlib.Core.Path.{_≡_, refl}
 use mathlib.Core.List.{map}
 use lib.Count.{ones, onesIn}
-use Rattle.octets.specs.Word.{octetsOf}
+use Rattle.fours.specs.Word.{octetsOf}
 use Rattle.crc.specs.Crc.{bitStep, bitSteps, octetStep, registerOver, fcsOf, mcrcOf}
 use Rattle.delimiters.specs.Delimiters.{leastOf, distanceOf}
 use Rattle.cut.specs.Cut.{lawful, firstOf, partOf}

@@ -1,15 +1,21 @@
--- What is left of a copy, after one octet and after some; and a copy into a lent part.
+-- Four octets stored; what is left of a copy, after one octet and after some; and a copy into a lent part.
 -- Assumes nothing.
 use mathlib.Core.Path.{_≡_, refl, sym, ap, _∙_}
 use mathlib.Core.List.{List, [], _∷_, _++_, append-assoc, append-nil}
 use Prim.Native.Nat.{ℕ, _+_, _-_, _≤_, _<_}
 use borrow.Rule.Slice.PartMut.{putMid, midOf}
 use native.Mathlib.Omega.{arith}
-use native.Mathlib.Numerals.{add-one}
+use native.Mathlib.Numerals.{add-one, add-two, add-three}
 use lib.ListN.{length, take, drop, set, getD, length-drop, take-append-drop, drop-of-length-le}
-use lib.Seq.{drop-cons, drop-drop, length-take-le, take-all}
+use lib.Seq.{drop-cons, drop-drop, length-take-le, sets-eq, take-all}
 use Rattle.octets.specs.Laid.{laid}
 use Rattle.octets.proofs.Laid.{laid-front, laid-none, laid-laid, set-one}
+
+-- four octets
+pub four-stored : (x0 x1 x2 x3 : ℕ) (l : List ℕ) (i : ℕ) → i + 4 ≤ length l
+    → set (set (set (set l i x0) (i + 1) x1) (i + 2) x2) (i + 3) x3 ≡ laid l i (x0 ∷ x1 ∷ x2 ∷ x3 ∷ [])
+unfolding laid
+four-stored x0 x1 x2 x3 l i h = rw (add-one, add-two, add-three) (sets-eq (x0 ∷ x1 ∷ x2 ∷ x3 ∷ []) l i h)
 
 -- one octet
 pub one-turn : (xs src : List ℕ) (i : ℕ) → i < length src → length src ≤ length xs

@@ -1,4 +1,3 @@
 pub mod Copy
 pub mod Laid
 pub mod Once
-pub mod Words

@@ -7,8 +7,8 @@ use native.Mathlib.Omega.{arith}
 use native.Mathlib.Nat.{sub-zero}
 use borrow.Author.Needs.{needs}
 use lib.ListN.{length, take}
-use Rattle.octets.specs.Word.{octetsOf}
-use Rattle.octets.proofs.Words.{octets-inj}
+use Rattle.fours.specs.Word.{octetsOf}
+use Rattle.fours.proofs.Words.{octets-inj}
 use Rattle.crc.specs.Crc.{registerOver}
 use Rattle.endings.specs.Judge.{lastFour, decided, endingOf}
 use Rattle.endings.specs.declared.Ending.{Ending}

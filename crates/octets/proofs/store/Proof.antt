@@ -2,8 +2,8 @@
 -- Assumes nothing.
 use native.Mathlib.Omega.{arith}
 use lib.ListN.{length-set}
-use Rattle.octets.specs.Word.{octetsOf}
-use Rattle.octets.proofs.Words.{four-stored}
+use Rattle.fours.specs.Word.{octetsOf}
+use Rattle.octets.proofs.Copy.{four-stored}
 use borrow.Author.Needs.{needs}
 use Rattle.octets.proofs.store.Statement.{statement}
 use Rattle.octets.proofs.store.Tie as tie

@@ -5,8 +5,8 @@ use Prim.Native.Nat.{ℕ}
 use native.Mathlib.Omega.{arith}
 use borrow.Author.Needs.{needs}
 use Rattle.octets.specs.Laid.{laid}
-use Rattle.octets.specs.Word.{octetsOf}
-use Rattle.octets.proofs.Words.{octets-of-word}
+use Rattle.fours.specs.Word.{octetsOf}
+use Rattle.fours.proofs.Words.{octets-of-word}
 use Rattle.octets.proofs.word.Statement.{statement}
 use Rattle.octets.proofs.word.Tie as tie
 

@@ -1,15 +1,14 @@
--- Four octets as a number: reading them, storing them, and that neither loses anything.
+-- Four octets as a number: reading them and giving them out, and that neither loses anything.
 -- Assumes nothing.
 use mathlib.Core.Path.{_≡_, refl, sym, ap, ap₂, _∙_}
 use mathlib.Core.List.{List, [], _∷_}
 use Prim.Native.Nat.{ℕ, suc, _+_, _*_, _/_, _%_, _^_, _≤_, _<_}
 use native.Mathlib.Omega.{arith}
-use native.Mathlib.Numerals.{add-one, add-two, add-three}
+use native.Mathlib.Numerals.{add-one}
 use lib.Pow.{shr-shr}
-use lib.ListN.{length, take, drop, set, getD}
-use lib.Seq.{drop-cons, sets-eq}
-use Rattle.octets.specs.Laid.{laid}
-use Rattle.octets.specs.Word.{wordAt, octetsOf}
+use lib.ListN.{length, take, drop, getD}
+use lib.Seq.{drop-cons}
+use Rattle.fours.specs.Word.{wordAt, octetsOf}
 
 -- four octets, one after the other
 next : (s : List ℕ) (i j : ℕ) → i < length s → j ≡ i + 1 → drop i s ≡ getD s i 0 ∷ drop j s
@@ -25,11 +24,6 @@ four-of s i h =
     ∙ ap (λ (l : List ℕ). x i ∷ l) (go 2 (i + 1) (i + 2) (omega arith) (omega arith)
     ∙ ap (λ (l : List ℕ). x (i + 1) ∷ l) (go 1 (i + 2) (i + 3) (omega arith) (omega arith)
     ∙ ap (λ (l : List ℕ). x (i + 2) ∷ l) (go 0 (i + 3) (i + 4) (omega arith) (omega arith))))
-
-pub four-stored : (x0 x1 x2 x3 : ℕ) (l : List ℕ) (i : ℕ) → i + 4 ≤ length l
-    → set (set (set (set l i x0) (i + 1) x1) (i + 2) x2) (i + 3) x3 ≡ laid l i (x0 ∷ x1 ∷ x2 ∷ x3 ∷ [])
-unfolding laid
-four-stored x0 x1 x2 x3 l i h = rw (add-one, add-two, add-three) (sets-eq (x0 ∷ x1 ∷ x2 ∷ x3 ∷ []) l i h)
 
 -- the octets of a word of four octets
 pub digits : (a b c d : ℕ) → a < 256 → b < 256 → c < 256 → d < 256 → octetsOf (a + b * 256 + c * 65536 + d * 16777216) ≡ a ∷ b ∷ c ∷ d ∷ []

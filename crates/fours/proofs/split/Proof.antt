@@ -1,10 +1,10 @@
--- `octets::split` meets its contract.
+-- `fours::split` meets its contract.
 -- Assumes nothing.
 use mathlib.Core.Path.{refl}
 use borrow.Author.Needs.{needs}
-use Rattle.octets.specs.Word.{octetsOf}
-use Rattle.octets.proofs.split.Statement.{statement}
-use Rattle.octets.proofs.split.Tie as tie
+use Rattle.fours.specs.Word.{octetsOf}
+use Rattle.fours.proofs.split.Statement.{statement}
+use Rattle.fours.proofs.split.Tie as tie
 
 cast-t3 : tie.Need-cast-t3
 cast-t3 c = search needs
