@@ -7,8 +7,9 @@ use Prim.Native.Nat.{ℕ}
 use lib.ListN.{length}
 use Rattle.sender_record.specs.Refusals.{refusalOf}
 use Rattle.send.specs.Preemptable.{sentOf, unless}
-use Rattle.sender_words.specs.Sender.{senderFits, senderOf, askOf}
+use Rattle.sender_words.specs.Sender.{senderFits, senderOf}
 use Rattle.sender_words.proofs.Laws.{sender-written}
+use Rattle.sent_words.specs.Sent.{askOf}
 use Rattle.seatport.specs.Sending.{told, unfit, sendingOf}
 
 -- a preemptable call that is refused hands the sender's words back, whatever they are

@@ -7,7 +7,8 @@ use Rattle.sender_answers.specs.Answers.{said, Outcome, Answered}
 use Rattle.sender_answers.specs.declared.Answer.{Answer}
 use Rattle.send.specs.Preemptable.{Step, Sent}
 use Rattle.send.specs.declared.Sending.{Sending}
-use Rattle.sender_words.specs.Sender.{numberOf, writtenOf, senderWords}
+use Rattle.sender_words.specs.Sender.{senderWords}
+use Rattle.sent_words.specs.Sent.{numberOf, writtenOf}
 use Rattle.seatport.specs.Sending.{Wrote, told}
 use Rattle.seatport.specs.Sending as S
 

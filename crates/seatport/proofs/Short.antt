@@ -27,7 +27,7 @@ use Rattle.sender_part.specs.Parts.{partNow, endOf, isDone, kindOf}
 use Rattle.send.specs.Preemptable.{checkOf, recordAfter, mFrame, sentOf, unless, preemptableOf}
 use Rattle.sender_part.proofs.Laws.{cut-within}
 use Rattle.send.proofs.Laws.{check-length}
-use Rattle.sender_words.specs.Sender.{Short}
+use Rattle.sent_words.specs.Sent.{Short}
 use Rattle.rules.proofs.Tests.{neither}
 
 pub express-short : (body : List ℕ) (room : ℕ) → Short (expressOf body room .said)

@@ -7,7 +7,8 @@ use Prim.Native.Nat.{ℕ}
 use Rattle.octets.specs.Laid.{over}
 use Rattle.sender_answers.specs.Answers.{Outcome, short}
 use Rattle.send.specs.Preemptable.{Step, preemptableOf}
-use Rattle.sender_words.specs.Sender.{numberOf, writtenOf, senderWords, senderFits, senderOf, askOf}
+use Rattle.sender_words.specs.Sender.{senderWords, senderFits, senderOf}
+use Rattle.sent_words.specs.Sent.{numberOf, writtenOf, askOf}
 
 -- the promise of a call that has no record: the number, the two words, and every octet of the buffer, which was out and is out′
 pub record Wrote (o : Outcome) (out : List ℕ) (number : ℕ) (written out′ : List ℕ) : Type 0 where

@@ -6,7 +6,8 @@ use mathlib.Core.List.{List}
 use Prim.Native.Nat.{ℕ}
 use Rattle.verify.specs.Verify.{Told, stepOf}
 use Rattle.words.specs.Words.{flag}
-use Rattle.verify_words.specs.Link.{eventOf, linkWords, linkFits, linkOf}
+use Rattle.verify_words.specs.Link.{linkWords, linkFits, linkOf}
+use Rattle.event_words.specs.Events.{eventOf}
 
 -- what comes of an event
 pub record Verifying : Type 0 where

@@ -10,8 +10,8 @@ pub extern "C" fn seatport_express(body: &[u8], out: &mut [u8], written: &mut [u
     ensures { λ r. ⌜ Wrote (expressOf (now (body .entry)) (length (now (out .entry)))) (now (out .entry)) r (now (written .exit)) (now (out .exit)) ⌝ }
 {
     let answer = single::express(body, out);
-    *written = sender_words::written_of(answer);
-    sender_words::number_of(answer)
+    *written = sent_words::written_of(answer);
+    sent_words::number_of(answer)
 }
 
 #[no_mangle]
@@ -19,8 +19,8 @@ pub extern "C" fn seatport_verify(out: &mut [u8], written: &mut [u32; 2]) -> u32
     ensures { λ r. ⌜ Wrote (orderOf Kinds.Verify (length (now (out .entry)))) (now (out .entry)) r (now (written .exit)) (now (out .exit)) ⌝ }
 {
     let answer = single::verify(out);
-    *written = sender_words::written_of(answer);
-    sender_words::number_of(answer)
+    *written = sent_words::written_of(answer);
+    sent_words::number_of(answer)
 }
 
 #[no_mangle]
@@ -28,8 +28,8 @@ pub extern "C" fn seatport_respond(out: &mut [u8], written: &mut [u32; 2]) -> u3
     ensures { λ r. ⌜ Wrote (orderOf Kinds.Respond (length (now (out .entry)))) (now (out .entry)) r (now (written .exit)) (now (out .exit)) ⌝ }
 {
     let answer = single::respond(out);
-    *written = sender_words::written_of(answer);
-    sender_words::number_of(answer)
+    *written = sent_words::written_of(answer);
+    sent_words::number_of(answer)
 }
 
 #[no_mangle]
@@ -47,14 +47,14 @@ pub extern "C" fn seatport_preemptable(
         let sent = send::preemptable(
             sender_words::sender_of(words),
             body,
-            sender_words::ask_of(ask),
+            sent_words::ask_of(ask),
             out,
         );
         let answer = sent.answer;
         let after = sent.after;
         *sender = sender_words::sender_words(after);
-        *written = sender_words::written_of(answer);
-        return sender_words::number_of(answer);
+        *written = sent_words::written_of(answer);
+        return sent_words::number_of(answer);
     }
     *written = [0, 0];
     if out.len() < OUTPUT_LEAST {

@@ -7,12 +7,12 @@ pub extern "C" fn seatport_step(link: &mut [u32; 4], event: u32, ordered: &mut u
 {
     let words = *link;
     if verify_words::link_fits(words, event) {
-        let stepped = verify::step(verify_words::link_of(words), verify_words::event_of(event));
+        let stepped = verify::step(verify_words::link_of(words), event_words::event_of(event));
         let answer = stepped.answer;
         let after = stepped.after;
         *link = verify_words::link_words(after);
-        *ordered = verify_words::ordered_of(answer);
-        return verify_words::number_of(answer);
+        *ordered = event_words::ordered_of(answer);
+        return event_words::number_of(answer);
     }
     *ordered = 0;
     40

@@ -4,19 +4,8 @@ use mathlib.Core.Path.{_≡_, sym, _∙_}
 use mathlib.Core.Bool.{Bool}
 use mathlib.Core.List.{List}
 use Prim.Native.Nat.{ℕ, _<_, _^_}
-use Rattle.cut.specs.declared.Ask.{Ask}
 use Rattle.sender_record.specs.declared.Record.{Record}
-use Rattle.sender_answers.specs.Answers.{said}
-use Rattle.sender_answers.specs.declared.Answer.{Answer}
-use Rattle.sender_words.specs.Sender.{numberOf, writtenOf, senderWords, senderFits, senderOf, askOf}
-
--- number_of
-pub number-of-once : (a : Answer) {x y : ℕ} → x ≡ numberOf (said a) → y ≡ numberOf (said a) → x ≡ y
-number-of-once a p q = p ∙ sym q
-
--- written_of
-pub written-of-once : (a : Answer) {x y : List ℕ} → x ≡ writtenOf (said a) → y ≡ writtenOf (said a) → x ≡ y
-written-of-once a p q = p ∙ sym q
+use Rattle.sender_words.specs.Sender.{senderWords, senderFits, senderOf}
 
 -- sender_fits
 pub sender-fits-once : (w : List ℕ) {x y : Bool} → x ≡ senderFits w → y ≡ senderFits w → x ≡ y
@@ -32,7 +21,3 @@ sender-of-once w p q = p .0 ∙ sym (q .0)
 -- sender_words
 pub sender-words-once : (r : Record) {x y : List ℕ} → x ≡ senderWords r → y ≡ senderWords r → x ≡ y
 sender-words-once r p q = p ∙ sym q
-
--- ask_of
-pub ask-of-once : (n : ℕ) {x y : Ask} → x ≡ askOf n → y ≡ askOf n → x ≡ y
-ask-of-once n p q = p ∙ sym q

@@ -1,38 +1,11 @@
-// The sending record (`struct seatport_sender` in C), an ask and what a sending call answers, as words of 32 bits.
+// The sending record (`struct seatport_sender` in C) as words of 32 bits.
 use codes::FragmentCount;
 use codes::FrameCount;
-use cut::Ask;
-use sender_answers::Answer;
 use sender_record::Record;
 ghost use mathlib.Core.Path.{_≡_};
 ghost use mathlib.Core.Bool.{true};
 ghost use Prim.Native.Nat.{_<_, _^_};
-ghost use Rattle.sender_answers.specs.Answers.{said};
-ghost use Rattle.sender_words.specs.Sender.{numberOf, writtenOf, Short, senderWords, senderFits, senderOf, askOf};
-
-// Stands for no ask.
-const NO_ASK: usize = 0xFFFF_FFFF_FFFF_FFFF;
-
-// The number that is returned.
-pub fn number_of(answer: Answer) -> u32
-    ensures { λ r. ⌜ r ≡ numberOf (said answer) ⌝ }
-{
-    match answer {
-        Answer::Wrote { length: _, done: _ } => 0,
-        Answer::Refused(why) => why.number(),
-    }
-}
-
-// The two words of what was written.
-pub fn written_of(answer: Answer) -> [u32; 2]
-    requires { ⌜ Short (said answer) ⌝ }
-    ensures { λ r. ⌜ r ≡ writtenOf (said answer) ⌝ }
-{
-    match answer {
-        Answer::Wrote { length, done } => [length as u32, words::flag(done)],
-        Answer::Refused(_) => [0, 0],
-    }
-}
+ghost use Rattle.sender_words.specs.Sender.{senderWords, senderFits, senderOf};
 
 // Whether seven words are a sending record's.
 pub fn sender_fits(words: [u32; 7]) -> bool
@@ -85,14 +58,4 @@ pub fn sender_words(record: Record) -> [u32; 7]
         record.sent as u32,
         fragment.0 as u32,
     ]
-}
-
-// The ask that a number of 64 bits is.
-pub fn ask_of(ask: usize) -> Ask
-    ensures { λ r. ⌜ r ≡ askOf ask ⌝ }
-{
-    if ask == NO_ASK {
-        return Ask::None;
-    }
-    Ask::At(ask)
 }

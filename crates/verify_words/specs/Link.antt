@@ -1,4 +1,4 @@
--- The verification record, which C calls a link, and its events as words of 32 bits.
+-- The verification record, which C calls a link, as words of 32 bits.
 -- Assumes nothing.
 use mathlib.Core.Bool.{Bool, cond, _&&_}
 use mathlib.Core.List.{List, [], _∷_}
@@ -7,8 +7,6 @@ use lib.Dec.{eqb, leb}
 use Rattle.verify_record.specs.declared.Phase.{Phase}
 use Rattle.verify_record.specs.declared.Phase.the-variants.{Off, Trying, Verified, Failed}
 use Rattle.verify_record.specs.declared.Record.{Record}
-use Rattle.verify.specs.declared.Event.{Event}
-use Rattle.verify.specs.declared.Event.the-variants.{Enable, Disable, LinkFailed, ResponseHeard, VerifyHeard, ResponseSent, Millisecond}
 use Rattle.words.specs.Words.{flag, word, isFlag, flagAt, isCount}
 
 -- the phases by number
@@ -20,16 +18,6 @@ phaseNumber Failed = 3
 
 abbrev pub phaseOf : ℕ → Phase
 phaseOf n = cond (eqb n 0) Off (cond (eqb n 1) Trying (cond (eqb n 2) Verified Failed))
-
--- the events by number, in the order of the table
-abbrev pub eventOf : ℕ → Event
-eventOf n =
-    cond (eqb n 0) Enable
-    (cond (eqb n 1) Disable
-    (cond (eqb n 2) LinkFailed
-    (cond (eqb n 3) ResponseHeard
-    (cond (eqb n 4) VerifyHeard
-    (cond (eqb n 5) ResponseSent Millisecond)))))
 
 -- the verification record in four words
 abbrev pub linkWords : Record → List ℕ

@@ -1,13 +1,10 @@
-// The verification record (`struct seatport_link` in C), its events and what it answers, as words of 32 bits.
-use verify::Answer;
-use verify::Event;
+// The verification record (`struct seatport_link` in C) as words of 32 bits.
 use verify_record::Phase;
 use verify_record::Record;
 ghost use mathlib.Core.Path.{_≡_};
 ghost use Prim.Native.Nat.{_≤_};
-ghost use Rattle.verify.specs.Verify.{said};
-ghost use Rattle.words.specs.Words.{flag, word};
-ghost use Rattle.verify_words.specs.Link.{phaseNumber, phaseOf, eventOf, linkWords, linkFits, linkOf};
+ghost use Rattle.words.specs.Words.{word};
+ghost use Rattle.verify_words.specs.Link.{phaseNumber, phaseOf, linkWords, linkFits, linkOf};
 
 // A phase by its number, both ways.
 fn phase_number(phase: Phase) -> u32
@@ -29,21 +26,6 @@ fn phase_of(n: u32) -> Phase
         1 => Phase::Trying,
         2 => Phase::Verified,
         _ => Phase::Failed,
-    }
-}
-
-// The event that a number is.
-pub fn event_of(n: u32) -> Event
-    ensures { λ r. ⌜ r ≡ eventOf n ⌝ }
-{
-    match n {
-        0 => Event::Enable,
-        1 => Event::Disable,
-        2 => Event::LinkFailed,
-        3 => Event::ResponseHeard,
-        4 => Event::VerifyHeard,
-        5 => Event::ResponseSent,
-        _ => Event::Millisecond,
     }
 }
 
@@ -91,24 +73,4 @@ pub fn link_words(record: Record) -> [u32; 4]
         record.left as u32,
         words::flag(record.owed),
     ]
-}
-
-// The number that is returned.
-pub fn number_of(answer: Answer) -> u32
-    ensures { λ r. ⌜ r ≡ said answer .number ⌝ }
-{
-    match answer {
-        Answer::Taken(_) => 0,
-        Answer::Refused => 40,
-    }
-}
-
-// Whether a V is ordered, as a flag.
-pub fn ordered_of(answer: Answer) -> u32
-    ensures { λ r. ⌜ r ≡ flag (said answer .ordered) ⌝ }
-{
-    match answer {
-        Answer::Taken(ordered) => words::flag(ordered),
-        Answer::Refused => 0,
-    }
 }

@@ -1,7 +1,7 @@
 -- `seatport::sending::seatport_preemptable` meets its contract.
 -- Assumes nothing.
 use mathlib.Core.Path.{refl, sym, subst, _∙_}
-use Rattle.sender_words.specs.Sender.{Short}
+use Rattle.sent_words.specs.Sent.{Short}
 use Rattle.seatport.specs.Sending.{sendingOf}
 use Rattle.rules.proofs.Tests.{tests}
 use Rattle.seatport.proofs.Sent.{sent-words}

@@ -1,7 +1,7 @@
 -- `seatport::sending::seatport_respond` meets its contract.
 -- Assumes nothing.
 use mathlib.Core.Path.{sym, subst}
-use Rattle.sender_words.specs.Sender.{Short}
+use Rattle.sent_words.specs.Sent.{Short}
 use Rattle.seatport.proofs.Sent.{wrote-words}
 use Rattle.seatport.proofs.Short.{order-short}
 use borrow.Author.Needs.{needs}

@@ -1,8 +1,8 @@
--- `sender_words::ask_of` meets its contract.
+-- `sent_words::ask_of` meets its contract.
 -- Assumes nothing.
 use Rattle.rules.proofs.Tests.{tests}
-use Rattle.sender_words.proofs.ask_of.Statement.{statement}
-use Rattle.sender_words.proofs.ask_of.Tie as tie
+use Rattle.sent_words.proofs.ask_of.Statement.{statement}
+use Rattle.sent_words.proofs.ask_of.Tie as tie
 
 returns : tie.Need-returns
 returns c =

@@ -1,11 +1,11 @@
--- `sender_words::written_of` meets its contract.
+-- `sent_words::written_of` meets its contract.
 -- Assumes nothing.
 use mathlib.Core.Path.{subst}
 use Rattle.sender_answers.specs.Answers.{said}
-use Rattle.sender_words.specs.Sender.{Short}
+use Rattle.sent_words.specs.Sent.{Short}
 use borrow.Author.Needs.{needs}
-use Rattle.sender_words.proofs.written_of.Statement.{statement}
-use Rattle.sender_words.proofs.written_of.Tie as tie
+use Rattle.sent_words.proofs.written_of.Statement.{statement}
+use Rattle.sent_words.proofs.written_of.Tie as tie
 
 enum-known-answer : tie.Need-enum-known-answer
 enum-known-answer c = search needs

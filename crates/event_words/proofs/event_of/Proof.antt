@@ -1,8 +1,8 @@
--- `verify_words::event_of` meets its contract.
+-- `event_words::event_of` meets its contract.
 -- Assumes nothing.
 use borrow.Author.Tests.{ne-eqb}
-use Rattle.verify_words.proofs.event_of.Statement.{statement}
-use Rattle.verify_words.proofs.event_of.Tie as tie
+use Rattle.event_words.proofs.event_of.Statement.{statement}
+use Rattle.event_words.proofs.event_of.Tie as tie
 
 returns : tie.Need-returns
 returns c = simp (c .match .keys1)

@@ -1,0 +1,21 @@
+-- No second answer meets a promise of this crate.
+-- Assumes nothing.
+use mathlib.Core.Path.{_≡_, sym, _∙_}
+use Prim.Native.Nat.{ℕ}
+use Rattle.verify.specs.Verify.{said}
+use Rattle.verify.specs.declared.Answer.{Answer}
+use Rattle.verify.specs.declared.Event.{Event}
+use Rattle.words.specs.Words.{flag}
+use Rattle.event_words.specs.Events.{eventOf}
+
+-- event_of
+pub event-of-once : (n : ℕ) {x y : Event} → x ≡ eventOf n → y ≡ eventOf n → x ≡ y
+event-of-once n p q = p ∙ sym q
+
+-- number_of
+pub number-of-once : (a : Answer) {x y : ℕ} → x ≡ said a .number → y ≡ said a .number → x ≡ y
+number-of-once a p q = p ∙ sym q
+
+-- ordered_of
+pub ordered-of-once : (a : Answer) {x y : ℕ} → x ≡ flag (said a .ordered) → y ≡ flag (said a .ordered) → x ≡ y
+ordered-of-once a p q = p ∙ sym q
