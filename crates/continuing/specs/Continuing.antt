@@ -12,7 +12,8 @@ use Rattle.endings.specs.declared.Ending.{Ending}
 use Rattle.endings.specs.declared.Ending.the-variants.{Done, More, Damaged}
 use Rattle.receiver_answers.specs.Answers.{says}
 use Rattle.receiver_record.specs.declared.Record.{Record}
-use Rattle.receiver_record.specs.Records.{joined, completed, shut, opened}
+use Rattle.counters.specs.Counters.{joined, completed}
+use Rattle.receiver_record.specs.Records.{shut, opened}
 use Rattle.outcomes.specs.Outcomes.{Step, unchanged, abandoned}
 
 -- a continuation that passed 22, 23 and 24, with the octets kept and its data so many in all

@@ -9,8 +9,9 @@ use lib.Dec.{eqb}
 use lib.ListN.{length, take, drop, length-drop}
 use Rattle.endings.specs.Judge.{dataOf}
 use Rattle.mframe.specs.declared.Kind.{Kind}
-use Rattle.heads.specs.Head.{faultNumber, reading, headOf}
-use Rattle.heads.specs.declared.Fault.{Fault}
+use Rattle.faults.specs.Faults.{faultNumber}
+use Rattle.heads.specs.Head.{reading, headOf}
+use Rattle.faults.specs.declared.Fault.{Fault}
 use Rattle.heads.specs.declared.Head.{Head}
 use Rattle.heads.specs.declared.Head.the-variants.{Known, Refused}
 use Rattle.receiver_record.specs.Records.{fresh, inRange}

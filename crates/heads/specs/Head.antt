@@ -12,32 +12,14 @@ use Rattle.delimiters.specs.declared.Fragment.{Fragment}
 use Rattle.delimiters.specs.declared.Fragment.the-variants as F
 use Rattle.mframe.specs.declared.Kind.{Kind}
 use Rattle.mframe.specs.declared.Kind.the-variants as K
+use Rattle.faults.specs.Faults.{faultNumber, faultDetail}
 use Rattle.heads.specs.declared.Head.{Head}
 use Rattle.heads.specs.declared.Head.the-variants.{Known, Refused}
-use Rattle.heads.specs.declared.Fault.{Fault}
-use Rattle.heads.specs.declared.Fault.the-variants.{Short, Long, Preamble, Delimiter as Unknown, Place, Fragment as Code}
 
 -- a head as the paper gives it: the kind and the place where the data begin, or a refusal's number and its value
 pub data Reading : Type 0 where
   known : Kind → (place : ℕ) → Reading
   refused : (number detail : ℕ) → Reading
-
-abbrev pub faultNumber : Fault → ℕ
-faultNumber Short = 12
-faultNumber Long = 13
-faultNumber Preamble = 14
-faultNumber (Unknown bits) = 15
-faultNumber Place = 16
-faultNumber Code = 17
-
--- 15 comes "with the least number of bits by which it differs from any of the eleven"
-abbrev pub faultDetail : Fault → ℕ
-faultDetail Short = 0
-faultDetail Long = 0
-faultDetail Preamble = 0
-faultDetail (Unknown bits) = bits
-faultDetail Place = 0
-faultDetail Code = 0
 
 abbrev pub reading : Head → Reading
 reading (Known kind place) = known kind place

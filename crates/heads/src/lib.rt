@@ -1,49 +1,9 @@
 // The head of any octets (document 01, "Receiving"): the kind with its counts and where the data begin, or the refusal.
 mod read;
 
+use faults::Fault;
 use mframe::Kind;
 pub use read::head_of;
-ghost use mathlib.Core.Path.{_≡_};
-ghost use Rattle.heads.specs.Head.{faultNumber, faultDetail};
-
-// Why an mFrame's head is refused: 12 to 17. An unknown delimiter has the least number of bits by which it differs from any of the eleven.
-pub enum Fault {
-    Short,
-    Long,
-    Preamble,
-    Delimiter(u32),
-    Place,
-    Fragment,
-}
-
-impl Fault {
-    pub fn number(self) -> u32
-        ensures { λ n. ⌜ n ≡ faultNumber self ⌝ }
-    {
-        match self {
-            Fault::Short => 12,
-            Fault::Long => 13,
-            Fault::Preamble => 14,
-            Fault::Delimiter(_) => 15,
-            Fault::Place => 16,
-            Fault::Fragment => 17,
-        }
-    }
-
-    // The bits of an unknown delimiter, else 0.
-    pub fn detail(self) -> usize
-        ensures { λ n. ⌜ n ≡ faultDetail self ⌝ }
-    {
-        match self {
-            Fault::Short => 0,
-            Fault::Long => 0,
-            Fault::Preamble => 0,
-            Fault::Delimiter(bits) => bits as usize,
-            Fault::Place => 0,
-            Fault::Fragment => 0,
-        }
-    }
-}
 
 // What the head of an mFrame says: its kind and the place where the data begin, or why it is refused.
 pub enum Head {

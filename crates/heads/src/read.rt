@@ -1,9 +1,9 @@
 // The head of any octets: the kind with its counts and where the data begin, or the refusal.
-use crate::Fault;
 use crate::Head;
 use codes::FrameCount;
 use delimiters::Delimiter;
 use delimiters::Fragment;
+use faults::Fault;
 use mframe::HEADER;
 use mframe::Kind;
 ghost use mathlib.Core.Path.{_≡_};

@@ -18,10 +18,11 @@ use Rattle.endings.specs.declared.Ending.{Ending}
 use Rattle.endings.specs.declared.Ending.the-variants.{Done, More, Damaged}
 use Rattle.mframe.specs.declared.Kind.{Kind}
 use Rattle.mframe.specs.declared.Kind.the-variants as K
-use Rattle.receiver_record.specs.declared.Counters.{Counters}
+use Rattle.counters.specs.declared.Counters.{Counters}
 use Rattle.receiver_record.specs.declared.Record.{Record}
 use Rattle.receiver_answers.specs.Answers.{Said, says}
-use Rattle.receiver_record.specs.Records.{strayed, shut, opened, counting}
+use Rattle.counters.specs.Counters.{strayed}
+use Rattle.receiver_record.specs.Records.{shut, opened, counting}
 use Rattle.outcomes.specs.Outcomes.{Step, delimiterError, unchanged, abandoned}
 use Rattle.continuing.specs.Continuing.{endedOf, unexpected, totalOf, continuationOf}
 use Rattle.starting.specs.Starting.{startOf}

@@ -8,7 +8,7 @@ use borrow.Author.Tests.{le-leb}
 use lib.ListN.{length, take}
 use Rattle.crc.specs.Crc.{allOnes, registerOver}
 use Rattle.codes.specs.Codes.{frame, fragment}
-use Rattle.receiver_record.specs.declared.Counters.{Counters}
+use Rattle.counters.specs.declared.Counters.{Counters}
 use Rattle.receiver_record.specs.declared.Record.{Record}
 use Rattle.receiver_record.specs.Records.{shut, opened, inRange}
 use Rattle.link.proofs.Counts.{further}

@@ -16,7 +16,7 @@ use Rattle.endings.proofs.Endings.{ending-done, ending-more}
 use Rattle.codes.specs.Codes.{frame, fragment}
 use Rattle.mframe.proofs.Laws.{Counted}
 use Rattle.send.specs.Preemptable.{checkOf}
-use Rattle.receiver_record.specs.declared.Counters.{Counters}
+use Rattle.counters.specs.declared.Counters.{Counters}
 use Rattle.receiver_record.specs.declared.Record.{Record}
 use Rattle.receiver_answers.specs.Answers.{Said, says}
 use Rattle.receiver_record.specs.Records.{shut, opened}

@@ -5,7 +5,8 @@ use Prim.Native.Nat.{ℕ}
 use lib.Dec.{eqb}
 use Rattle.receiver_answers.specs.Answers.{Said, said}
 use Rattle.receiver_record.specs.declared.Record.{Record}
-use Rattle.receiver_record.specs.Records.{erred, strayed, shut, counting}
+use Rattle.counters.specs.Counters.{erred, strayed}
+use Rattle.receiver_record.specs.Records.{shut, counting}
 use Rattle.outcomes.specs.declared.Received.{Received}
 
 -- an answer and the record after it, as the paper tells them

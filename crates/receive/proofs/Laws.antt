@@ -15,11 +15,11 @@ use Rattle.endings.specs.Judge.{endingOf}
 use Rattle.endings.specs.declared.Ending.{Ending}
 use Rattle.endings.proofs.Endings.{Ends, ends}
 use Rattle.endings.specs.declared.Ending.the-variants.{Done, More, Damaged}
-use Rattle.heads.specs.Head.{faultNumber}
+use Rattle.faults.specs.Faults.{faultNumber}
 use Rattle.mframe.specs.declared.Kind.{Kind}
 use Rattle.mframe.specs.declared.Kind.the-variants as K
-use Rattle.heads.specs.declared.Fault.{Fault}
-use Rattle.heads.specs.declared.Fault.the-variants.{Short, Long, Preamble, Delimiter, Place, Fragment}
+use Rattle.faults.specs.declared.Fault.{Fault}
+use Rattle.faults.specs.declared.Fault.the-variants.{Short, Long, Preamble, Delimiter, Place, Fragment}
 use Rattle.receiver_record.specs.declared.Record.{Record}
 use Rattle.receiver_answers.specs.Answers.{says}
 use Rattle.outcomes.specs.Outcomes.{Step, unchanged, abandoned}

@@ -11,9 +11,10 @@ use lib.ListN.{length, take, drop}
 use lib.Seq.{length-take-le}
 use Rattle.octets.specs.Laid.{laid}
 use Rattle.endings.specs.Judge.{dataOf}
-use Rattle.heads.specs.Head.{faultNumber, faultDetail, reading, headOf}
+use Rattle.faults.specs.Faults.{faultNumber, faultDetail}
+use Rattle.heads.specs.Head.{reading, headOf}
 use Rattle.mframe.specs.declared.Kind.{Kind}
-use Rattle.heads.specs.declared.Fault.{Fault}
+use Rattle.faults.specs.declared.Fault.{Fault}
 use Rattle.heads.specs.declared.Head.{Head}
 use Rattle.heads.specs.declared.Head.the-variants.{Known, Refused}
 use Rattle.receiver_record.specs.declared.Record.{Record}

@@ -23,10 +23,11 @@ use Rattle.heads.specs.Head.{Reading, known, refused, headOf}
 use Rattle.mframe.specs.declared.Kind.{Kind}
 use Rattle.mframe.specs.declared.Kind.the-variants as K
 use Rattle.mframe.proofs.Laws.{Counted}
-use Rattle.receiver_record.specs.declared.Counters.{Counters}
+use Rattle.counters.specs.declared.Counters.{Counters}
 use Rattle.receiver_record.specs.declared.Record.{Record}
 use Rattle.receiver_answers.specs.Answers.{Said, says}
-use Rattle.receiver_record.specs.Records.{strayed, shut, opened, counting, inRange}
+use Rattle.counters.specs.Counters.{strayed}
+use Rattle.receiver_record.specs.Records.{shut, opened, counting, inRange}
 use Rattle.outcomes.specs.Outcomes.{Step, unchanged, abandoned}
 use Rattle.continuing.specs.Continuing.{endedOf, unexpected, totalOf, continuationOf}
 use Rattle.starting.specs.Starting.{startOf}

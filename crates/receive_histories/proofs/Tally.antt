@@ -16,10 +16,11 @@ use Rattle.endings.specs.declared.Ending.the-variants.{Done, More, Damaged}
 use Rattle.heads.specs.Head.{Reading, known, refused, headOf}
 use Rattle.mframe.specs.declared.Kind.{Kind}
 use Rattle.mframe.specs.declared.Kind.the-variants as K
-use Rattle.receiver_record.specs.declared.Counters.{Counters}
+use Rattle.counters.specs.declared.Counters.{Counters}
 use Rattle.receiver_record.specs.declared.Record.{Record}
 use Rattle.receiver_answers.specs.Answers.{Said, says}
-use Rattle.receiver_record.specs.Records.{erred, strayed, joined, completed, opened, inRange}
+use Rattle.counters.specs.Counters.{erred, strayed, joined, completed}
+use Rattle.receiver_record.specs.Records.{opened, inRange}
 use Rattle.outcomes.specs.Outcomes.{Step, unchanged, abandoned}
 use Rattle.continuing.specs.Continuing.{endedOf, unexpected, totalOf, continuationOf}
 use Rattle.starting.specs.Starting.{one, startOf}

@@ -4,8 +4,8 @@ use mathlib.Core.Path.{_≡_, refl, sym, ap, _∙_}
 use mathlib.Core.Bool.{cond}
 use Prim.Native.Nat.{ℕ}
 use lib.Dec.{eqb, ltb}
-use Rattle.heads.specs.declared.Fault.the-variants.{Short, Long, Preamble, Delimiter, Place, Fragment}
-use Rattle.heads.proofs.Once.{faultOf}
+use Rattle.faults.specs.declared.Fault.the-variants.{Short, Long, Preamble, Delimiter, Place, Fragment}
+use Rattle.faults.proofs.Once.{faultOf}
 use Rattle.receiver_answers.specs.declared.Refusal.{Refusal}
 use Rattle.receiver_answers.specs.declared.Refusal.the-variants.{Buffer, Record as Range, Head}
 use Rattle.receiver_answers.specs.declared.Drop.{Drop}

@@ -1,7 +1,7 @@
 -- The numbered answers of document 01, "Receiving", a case a line. The detail is "body length for 0 and 1, octets kept for 2, bits for 15,
 -- else 0". Assumes nothing.
 use Prim.Native.Nat.{ℕ}
-use Rattle.heads.specs.Head.{faultNumber, faultDetail}
+use Rattle.faults.specs.Faults.{faultNumber, faultDetail}
 use Rattle.receiver_answers.specs.declared.Refusal.{Refusal}
 use Rattle.receiver_answers.specs.declared.Refusal.the-variants as R
 use Rattle.receiver_answers.specs.declared.Drop.{Drop}

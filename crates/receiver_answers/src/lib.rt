@@ -1,5 +1,5 @@
 // What the receiving side answers (document 01, "Receiving"): the numbered answers with what the paper says for each.
-use heads::Fault;
+use faults::Fault;
 ghost use mathlib.Core.Path.{_≡_};
 ghost use Rattle.receiver_answers.specs.Answers.{refusalNumber, refusalDetail, dropNumber, said};
 

@@ -1,32 +1,12 @@
--- The receiving record and its counters (document 01, "Receiving" and "Counters"). Assumes nothing.
+-- The receiving record (document 01, "Receiving"). Assumes nothing.
 use mathlib.Core.Bool.{Bool, true, false, cond, _&&_}
-use Prim.Native.Nat.{ℕ, _+_, _%_, _^_}
+use Prim.Native.Nat.{ℕ}
 use lib.Dec.{eqb, leb}
 use Rattle.codes.specs.Codes.{frame, fragment}
 use Rattle.codes.specs.declared.FrameCount.{FrameCount}
 use Rattle.codes.specs.declared.FragmentCount.{FragmentCount}
-use Rattle.receiver_record.specs.declared.Counters.{Counters}
+use Rattle.counters.specs.declared.Counters.{Counters}
 use Rattle.receiver_record.specs.declared.Record.{Record}
-
--- "32 bits each, going from 4,294,967,295 to 0"
-abbrev pub more : ℕ → ℕ → ℕ
-more k n = (n + k) % 2 ^ 32
-
--- k assembly errors
-abbrev pub erred : ℕ → Counters → Counters
-erred k c = record { errors = more k (c .errors); delimiters = c .delimiters; assembled = c .assembled; fragments = c .fragments }
-
--- a delimiter error
-abbrev pub strayed : Counters → Counters
-strayed c = record { errors = c .errors; delimiters = more 1 (c .delimiters); assembled = c .assembled; fragments = c .fragments }
-
--- a continuation kept
-abbrev pub joined : Counters → Counters
-joined c = record { errors = c .errors; delimiters = c .delimiters; assembled = c .assembled; fragments = more 1 (c .fragments) }
-
--- a continuation that completes its frame, which took two or more mFrames
-abbrev pub completed : Counters → Counters
-completed c = record { errors = c .errors; delimiters = c .delimiters; assembled = more 1 (c .assembled); fragments = more 1 (c .fragments) }
 
 -- "Not assembling means the four middle fields are 0"
 abbrev pub shut : Counters → Record

@@ -1,7 +1,7 @@
 // The receiving record (`struct seatport_receiver` in C) as words of 32 bits.
 use codes::FragmentCount;
 use codes::FrameCount;
-use receiver_record::Counters;
+use counters::Counters;
 use receiver_record::Record;
 ghost use mathlib.Core.Path.{_≡_};
 ghost use mathlib.Core.Bool.{true};

@@ -22,7 +22,8 @@ use Rattle.heads.proofs.Heads.{Good, head-good, detail-small}
 use Rattle.receiver_record.specs.declared.Record.{Record}
 use Rattle.outcomes.specs.declared.Received.{Received}
 use Rattle.receiver_answers.specs.Answers.{says}
-use Rattle.receiver_record.specs.Records.{inRange, counting, strayed}
+use Rattle.counters.specs.Counters.{strayed}
+use Rattle.receiver_record.specs.Records.{inRange, counting}
 use Rattle.outcomes.specs.Outcomes.{Step, told, delimiterError, unchanged, abandoned}
 use Rattle.continuing.specs.Continuing.{endedOf, unexpected, totalOf, continuationOf}
 use Rattle.starting.specs.Starting.{startOf}

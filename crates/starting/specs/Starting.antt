@@ -7,7 +7,8 @@ use Rattle.endings.specs.declared.Ending.{Ending}
 use Rattle.endings.specs.declared.Ending.the-variants.{Done, More, Damaged}
 use Rattle.receiver_answers.specs.Answers.{says}
 use Rattle.receiver_record.specs.declared.Record.{Record}
-use Rattle.receiver_record.specs.Records.{erred, shut, opened}
+use Rattle.counters.specs.Counters.{erred}
+use Rattle.receiver_record.specs.Records.{shut, opened}
 use Rattle.outcomes.specs.Outcomes.{Step}
 
 -- one for an assembly that is open

@@ -2,8 +2,8 @@
 // the reference alone.
 use codes::FragmentCount;
 use codes::FrameCount;
+use counters::Counters;
 use receiver_answers::Answer;
-use receiver_record::Counters;
 use receiver_record::Record;
 use test_questions::read;
 use test_questions::read::Question;

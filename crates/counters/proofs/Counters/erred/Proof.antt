@@ -1,8 +1,8 @@
--- `receiver_record::Counters::erred` meets its contract.
+-- `counters::Counters::erred` meets its contract.
 -- Assumes nothing.
 use borrow.Author.Needs.{needs}
-use Rattle.receiver_record.proofs.Counters.erred.Statement.{statement}
-use Rattle.receiver_record.proofs.Counters.erred.Tie as tie
+use Rattle.counters.proofs.Counters.erred.Statement.{statement}
+use Rattle.counters.proofs.Counters.erred.Tie as tie
 
 wrapping-add-u32-requires : tie.Need-wrapping-add-u32-requires
 wrapping-add-u32-requires c κs = search needs

@@ -1,8 +1,8 @@
--- `receiver_record::Counters::strayed` meets its contract.
+-- `counters::Counters::strayed` meets its contract.
 -- Assumes nothing.
 use borrow.Author.Needs.{needs}
-use Rattle.receiver_record.proofs.Counters.strayed.Statement.{statement}
-use Rattle.receiver_record.proofs.Counters.strayed.Tie as tie
+use Rattle.counters.proofs.Counters.strayed.Statement.{statement}
+use Rattle.counters.proofs.Counters.strayed.Tie as tie
 
 wrapping-add-u32-requires : tie.Need-wrapping-add-u32-requires
 wrapping-add-u32-requires c κs = search needs
