@@ -12,7 +12,7 @@ enum { PHOTOGRAPH = 1518, PRESS = 60, PRESSED_AT = 500 };
 
 /* The port that hears. */
 static struct seatport_receiver receiver;
-static uint8_t assembly[SEATPORT_ASSEMBLY];
+static uint8_t assembly[SEATPORT_SIZE_ASSEMBLY];
 
 static const uint8_t *wanted_photograph, *wanted_press;
 
@@ -24,14 +24,14 @@ static int hear(const uint8_t *mframe, uint32_t length)
 	struct seatport_part body;
 	printf("  %4u octets arrive: ", (unsigned)length);
 	switch (answer) {
-	case SEATPORT_EXPRESS:
+	case SEATPORT_ANSWER_EXPRESS:
 		seatport_express_body(mframe, length, &body);
 		printf("express, a body of %u octets\n", (unsigned)body.length);
 		return body.length == PRESS && memcmp(mframe + body.start, wanted_press, PRESS) == 0;
-	case SEATPORT_PREEMPTABLE:
+	case SEATPORT_ANSWER_PREEMPTABLE:
 		printf("preemptable, a body of %u octets is complete\n", (unsigned)detail);
 		return detail == PHOTOGRAPH && memcmp(assembly, wanted_photograph, PHOTOGRAPH) == 0;
-	case SEATPORT_FRAGMENT:
+	case SEATPORT_ANSWER_FRAGMENT:
 		printf("a fragment, %u octets kept\n", (unsigned)detail);
 		return 1;
 	default:
@@ -45,7 +45,7 @@ int main(void)
 	/* The port that sends, with preemption on. */
 	struct seatport_sender sender = { 0, 0, 0, 0, 0, 0, 0 };
 	struct seatport_written written = { 0, 0 };
-	uint8_t photograph[PHOTOGRAPH], press[PRESS], output[SEATPORT_OUTPUT];
+	uint8_t photograph[PHOTOGRAPH], press[PRESS], output[SEATPORT_SIZE_OUTPUT];
 	uint64_t ask = PRESSED_AT;
 	int good = 1;
 
@@ -59,12 +59,12 @@ int main(void)
 
 	printf("a photograph of %d octets; the button is pressed at octet %d\n", PHOTOGRAPH, PRESSED_AT);
 	while (good && !written.done) {
-		if (seatport_preemptable(&sender, photograph, PHOTOGRAPH, ask, output, sizeof output, &written) != SEATPORT_WRITTEN)
+		if (seatport_preemptable(&sender, photograph, PHOTOGRAPH, ask, output, sizeof output, &written) != SEATPORT_SENT_WRITTEN)
 			return 1;
 		good = hear(output, written.length);
 		if (ask != SEATPORT_NO_ASK) {
 			struct seatport_written first;
-			if (seatport_express(press, PRESS, output, sizeof output, &first) != SEATPORT_WRITTEN)
+			if (seatport_express(press, PRESS, output, sizeof output, &first) != SEATPORT_SENT_WRITTEN)
 				return 1;
 			good = good && hear(output, first.length);
 			ask = SEATPORT_NO_ASK;

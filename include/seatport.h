@@ -24,24 +24,24 @@ extern "C" {
 /* Sizes in octets. An mFrame counts from its first preamble octet to its last check octet, a body is a frame without its
  * check octets. */
 enum seatport_size {
-	SEATPORT_BODY_MIN = 60,
-	SEATPORT_BODY_MAX = 1518,
-	SEATPORT_MFRAME_MIN = 72,
-	SEATPORT_MFRAME_MAX = 1530,
-	SEATPORT_OUTPUT = 1530,  /* the least output buffer of a sending call */
-	SEATPORT_ASSEMBLY = 1518 /* the least assembly buffer of seatport_receive */
+	SEATPORT_SIZE_BODY_MIN = 60,
+	SEATPORT_SIZE_BODY_MAX = 1518,
+	SEATPORT_SIZE_MFRAME_MIN = 72,
+	SEATPORT_SIZE_MFRAME_MAX = 1530,
+	SEATPORT_SIZE_OUTPUT = 1530,  /* the least output buffer of a sending call */
+	SEATPORT_SIZE_ASSEMBLY = 1518 /* the least assembly buffer of seatport_receive */
 };
 
 /* ---- Sending -------------------------------------------------------------------------------------------------------- */
 
 /* What a sending call returns. A refused call writes nothing to the output buffer and leaves the record as it was. */
 enum seatport_sent {
-	SEATPORT_WRITTEN = 0,
-	SEATPORT_OUTPUT_SHORT = 30, /* output buffer under SEATPORT_OUTPUT octets */
-	SEATPORT_SENDER_BAD = 31,   /* sending record outside its ranges */
-	SEATPORT_BODY_BAD = 32,     /* body not SEATPORT_BODY_MIN to SEATPORT_BODY_MAX octets */
-	SEATPORT_BODY_OTHER = 33,   /* body length differs from the frame in progress */
-	SEATPORT_HELD = 34          /* active and hold set, preemptable call */
+	SEATPORT_SENT_WRITTEN = 0,
+	SEATPORT_SENT_OUTPUT_SHORT = 30, /* output buffer under SEATPORT_SIZE_OUTPUT octets */
+	SEATPORT_SENT_RECORD_BAD = 31,   /* sending record outside its ranges */
+	SEATPORT_SENT_BODY_BAD = 32,     /* body not SEATPORT_SIZE_BODY_MIN to SEATPORT_SIZE_BODY_MAX octets */
+	SEATPORT_SENT_BODY_OTHER = 33,   /* body length differs from the frame in progress */
+	SEATPORT_SENT_HELD = 34          /* active and hold set, preemptable call */
 };
 
 /* The mFrame that a call wrote at the front of the output buffer: its length, and whether the frame is done with it. Both
@@ -85,25 +85,25 @@ uint32_t seatport_respond(uint8_t *output, uint64_t room, struct seatport_writte
 
 /* What seatport_receive returns, and its detail where it has one. */
 enum seatport_answer {
-	SEATPORT_EXPRESS = 0,         /* express delivered; detail: body length. seatport_express_body says where it is */
-	SEATPORT_PREEMPTABLE = 1,     /* preemptable delivered; detail: body length. The body is at the buffer's front */
-	SEATPORT_FRAGMENT = 2,        /* fragment kept; detail: octets kept so far */
-	SEATPORT_VERIFY_HEARD = 3,    /* a V: tell seatport_step */
-	SEATPORT_RESPOND_HEARD = 4,   /* an R: tell seatport_step */
-	SEATPORT_BUFFER_SHORT = 10,   /* refused: buffer under SEATPORT_ASSEMBLY octets */
-	SEATPORT_RECEIVER_BAD = 11,   /* refused: receiving record outside its ranges */
-	SEATPORT_TOO_SHORT = 12,      /* refused: under SEATPORT_MFRAME_MIN octets */
-	SEATPORT_TOO_LONG = 13,       /* refused: over SEATPORT_MFRAME_MAX octets */
-	SEATPORT_PREAMBLE_BAD = 14,   /* refused: one of places 0 to 5 is not 55 */
-	SEATPORT_DELIMITER_BAD = 15,  /* refused; detail: the least number of bits to any of the eleven delimiters */
-	SEATPORT_DELIMITER_MISPLACED = 16, /* refused: delimiter out of place */
-	SEATPORT_FRAGMENT_BAD = 17,   /* refused: unknown fragment code */
-	SEATPORT_EXPRESS_DAMAGED = 20, /* dropped: express, FCS wrong */
-	SEATPORT_ORDER_DAMAGED = 21,  /* dropped: V or R, mCRC wrong */
-	SEATPORT_NO_ASSEMBLY = 22,    /* dropped: continuation, none in assembly */
-	SEATPORT_COUNT_OTHER = 23,    /* dropped, assembly abandoned: frame or fragment count not the expected */
-	SEATPORT_OVERFLOW = 24,       /* dropped, assembly abandoned: octets kept plus this data over SEATPORT_BODY_MAX */
-	SEATPORT_DAMAGED = 25         /* dropped, assembly abandoned: last four octets neither FCS nor mCRC */
+	SEATPORT_ANSWER_EXPRESS = 0,              /* express delivered; detail: body length. seatport_express_body says where it is */
+	SEATPORT_ANSWER_PREEMPTABLE = 1,          /* preemptable delivered; detail: body length. The body is at the buffer's front */
+	SEATPORT_ANSWER_FRAGMENT = 2,             /* fragment kept; detail: octets kept so far */
+	SEATPORT_ANSWER_VERIFY_HEARD = 3,         /* a V: hand the answer to seatport_step */
+	SEATPORT_ANSWER_RESPOND_HEARD = 4,        /* an R: hand the answer to seatport_step */
+	SEATPORT_ANSWER_BUFFER_SHORT = 10,        /* refused: buffer under SEATPORT_SIZE_ASSEMBLY octets */
+	SEATPORT_ANSWER_RECORD_BAD = 11,          /* refused: receiving record outside its ranges */
+	SEATPORT_ANSWER_TOO_SHORT = 12,           /* refused: under SEATPORT_SIZE_MFRAME_MIN octets */
+	SEATPORT_ANSWER_TOO_LONG = 13,            /* refused: over SEATPORT_SIZE_MFRAME_MAX octets */
+	SEATPORT_ANSWER_PREAMBLE_BAD = 14,        /* refused: one of places 0 to 5 is not 55 */
+	SEATPORT_ANSWER_DELIMITER_BAD = 15,       /* refused; detail: the least number of bits to any of the eleven delimiters */
+	SEATPORT_ANSWER_DELIMITER_MISPLACED = 16, /* refused: delimiter out of place */
+	SEATPORT_ANSWER_FRAGMENT_CODE_BAD = 17,   /* refused: unknown fragment code */
+	SEATPORT_ANSWER_EXPRESS_DAMAGED = 20,     /* dropped: express, FCS wrong */
+	SEATPORT_ANSWER_ORDER_DAMAGED = 21,       /* dropped: V or R, mCRC wrong */
+	SEATPORT_ANSWER_NO_ASSEMBLY = 22,         /* dropped: continuation, none in assembly */
+	SEATPORT_ANSWER_COUNT_OTHER = 23,         /* dropped, assembly abandoned: frame or fragment count not the expected */
+	SEATPORT_ANSWER_OVERFLOW = 24,            /* dropped, assembly abandoned: octets kept plus this data over SEATPORT_SIZE_BODY_MAX */
+	SEATPORT_ANSWER_DAMAGED = 25              /* dropped, assembly abandoned: last four octets neither FCS nor mCRC */
 };
 
 /* What the receiving side keeps between calls, beside the assembly buffer. The counters go on from 4,294,967,295 to 0. */
@@ -136,29 +136,36 @@ void seatport_express_body(const uint8_t *mframe, uint64_t length, struct seatpo
 
 /* ---- Link verification ---------------------------------------------------------------------------------------------- */
 
-enum seatport_phase { SEATPORT_OFF = 0, SEATPORT_TRYING = 1, SEATPORT_VERIFIED = 2, SEATPORT_FAILED = 3 };
+enum seatport_phase {
+	SEATPORT_PHASE_OFF = 0,
+	SEATPORT_PHASE_TRYING = 1,
+	SEATPORT_PHASE_VERIFIED = 2,
+	SEATPORT_PHASE_FAILED = 3
+};
 
+/* What was heard has the number of the answer of seatport_receive that tells it, so that the answer can be handed on as it is; no other answer
+ * is an event: seatport_step refuses it and changes nothing. */
 enum seatport_event {
-	SEATPORT_ENABLE = 0,
-	SEATPORT_DISABLE = 1,
-	SEATPORT_LINK_FAILED = 2,
-	SEATPORT_HEARD_RESPOND = 3, /* answer 4 of seatport_receive */
-	SEATPORT_HEARD_VERIFY = 4,  /* answer 3 of seatport_receive */
-	SEATPORT_RESPONSE_SENT = 5,
-	SEATPORT_MILLISECOND = 6
+	SEATPORT_EVENT_VERIFY_HEARD = SEATPORT_ANSWER_VERIFY_HEARD,
+	SEATPORT_EVENT_RESPOND_HEARD = SEATPORT_ANSWER_RESPOND_HEARD,
+	SEATPORT_EVENT_RESPONSE_SENT = 5,
+	SEATPORT_EVENT_MILLISECOND = 6,
+	SEATPORT_EVENT_ENABLE = 7,
+	SEATPORT_EVENT_DISABLE = 8,
+	SEATPORT_EVENT_LINK_FAILED = 9
 };
 
 /* What seatport_step returns. */
 enum seatport_stepped {
-	SEATPORT_STEPPED = 0,
-	SEATPORT_LINK_BAD = 40 /* record outside its ranges, or no such event: nothing changed */
+	SEATPORT_STEPPED_TAKEN = 0,
+	SEATPORT_STEPPED_REFUSED = 40 /* record outside its ranges, or no such event: nothing changed */
 };
 
 struct seatport_link {
 	uint32_t phase;   /* enum seatport_phase */
 	uint32_t attempt; /* in trying 1 to 3, else 0 */
 	uint32_t left;    /* in trying the milliseconds left, 1 to 10, else 0 */
-	uint32_t owed;    /* a response is owed: send an R, then tell SEATPORT_RESPONSE_SENT */
+	uint32_t owed;    /* a response is owed: send an R, then tell SEATPORT_EVENT_RESPONSE_SENT */
 };
 
 /* One event. *ordered becomes 1 if a V is to be sent now, else 0. Returns 0 or 40. */
@@ -168,12 +175,12 @@ uint32_t seatport_step(struct seatport_link *link, uint32_t event, uint32_t *ord
 
 /* What seatport_trace returns. */
 enum seatport_traced {
-	SEATPORT_RECORD = 0,
-	SEATPORT_END = 1,          /* no octet is left */
-	SEATPORT_HEADER_CUT = 50,  /* fewer than the four octets of a header */
-	SEATPORT_CONTENT_LONG = 51, /* length over 1,600 */
-	SEATPORT_KIND_UNKNOWN = 52, /* kind not 1 */
-	SEATPORT_CONTENT_CUT = 53  /* fewer octets than the length says */
+	SEATPORT_TRACED_RECORD = 0,
+	SEATPORT_TRACED_END = 1,           /* no octet is left */
+	SEATPORT_TRACED_HEADER_CUT = 50,   /* fewer than the four octets of a header */
+	SEATPORT_TRACED_CONTENT_LONG = 51, /* length over 1,600 */
+	SEATPORT_TRACED_KIND_UNKNOWN = 52, /* kind not 1 */
+	SEATPORT_TRACED_CONTENT_CUT = 53   /* fewer octets than the length says */
 };
 
 /* A record of a trace: where its content starts and how long it is, and where the next record starts. All are 0 where there
@@ -185,7 +192,7 @@ struct seatport_content {
 };
 
 /* The first record of a trace, or of what is left of one:
- *     for (; seatport_trace(at, left, &c) == SEATPORT_RECORD; at += c.next, left -= c.next)
+ *     for (; seatport_trace(at, left, &c) == SEATPORT_TRACED_RECORD; at += c.next, left -= c.next)
  *             listen(at + c.start, c.length);
  */
 uint32_t seatport_trace(const uint8_t *trace, uint64_t length, struct seatport_content *content);

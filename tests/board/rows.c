@@ -10,7 +10,7 @@ enum { PRESS = 60, PHOTOGRAPH = 1518, CUT = 760 };
 static uint8_t press[PRESS], photograph[PHOTOGRAPH];
 
 /* What the row calls with, and where the two leave what they made. */
-static uint8_t mframe[SEATPORT_MFRAME_MAX];
+static uint8_t mframe[SEATPORT_SIZE_MFRAME_MAX];
 static uint32_t length;
 static const uint8_t *body;
 static uint32_t body_length;
@@ -18,7 +18,7 @@ static uint64_t ask;
 static struct plain_sender sender_before;
 static struct plain_receiver receiver_before;
 
-static uint8_t port_memory[SEATPORT_MFRAME_MAX], plain_memory[SEATPORT_MFRAME_MAX];
+static uint8_t port_memory[SEATPORT_SIZE_MFRAME_MAX], plain_memory[SEATPORT_SIZE_MFRAME_MAX];
 static struct seatport_sender port_sender;
 static struct plain_sender plain_sender;
 static struct seatport_receiver port_receiver;

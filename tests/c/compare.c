@@ -156,7 +156,7 @@ static void no_record(uint32_t which)
 	struct plain_written expected = { 0, 0 };
 	struct seatport_written written = { 7, 7 };
 	uint32_t n = some_body();
-	uint64_t room = some_room(SEATPORT_OUTPUT);
+	uint64_t room = some_room(SEATPORT_SIZE_OUTPUT);
 	fill(body, n);
 	lend();
 	if (which == 0) {
@@ -205,7 +205,7 @@ static void send_all(void)
 		if (one_in(12))
 			((uint32_t *)&plain)[chance(7)] = odd_word();
 		uint64_t ask = one_in(4) ? SEATPORT_NO_ASK : some_ask();
-		uint64_t room = some_room(SEATPORT_OUTPUT);
+		uint64_t room = some_room(SEATPORT_SIZE_OUTPUT);
 		struct seatport_sender port;
 		struct plain_written expected = { 0, 0 };
 		struct seatport_written written = { 7, 7 };
@@ -310,6 +310,25 @@ static void damage(void)
 	}
 }
 
+/* The answer handed on as an event: a V or an R is heard by it, and any other answer is refused and changes nothing. */
+static void hand_on(uint32_t answer)
+{
+	const struct seatport_link trying = { SEATPORT_PHASE_TRYING, 1, 10, 0 };
+	struct seatport_link expected = trying, link = trying;
+	uint32_t ordered = 7, number = SEATPORT_STEPPED_TAKEN;
+	if (answer == SEATPORT_ANSWER_VERIFY_HEARD) {
+		expected.owed = 1;
+	} else if (answer == SEATPORT_ANSWER_RESPOND_HEARD) {
+		expected.phase = SEATPORT_PHASE_VERIFIED;
+		expected.attempt = expected.left = 0;
+	} else {
+		number = SEATPORT_STEPPED_REFUSED;
+	}
+	if (seatport_step(&link, answer, &ordered) != number || ordered != 0)
+		fail("the answer handed on is taken as another event");
+	same(&link, &expected, sizeof link, "another verification record, the answer handed on");
+}
+
 static void receive_all(void)
 {
 	static const unsigned numbers[] = { 0, 1, 2, 3, 4, 10, 11, 12, 13, 14, 15, 16, 17, 20, 21, 22, 23, 24, 25 };
@@ -333,11 +352,12 @@ static void receive_all(void)
 			plain.assembly_errors = plain.delimiter_errors = plain.assembled = plain.fragments = 0xffffffff;
 		if (broken)
 			((uint32_t *)&plain)[chance(5)] = odd_word();
-		uint64_t room = some_room(SEATPORT_ASSEMBLY);
+		uint64_t room = some_room(SEATPORT_SIZE_ASSEMBLY);
 		uint32_t plain_detail = 7, port_detail = 7;
 		memcpy(&port, &plain, sizeof port);
-		answered(seatport_receive(&port, mframe, length, port_memory, room, &port_detail),
-			 plain_receive(&plain, mframe, length, plain_memory, (size_t)room, &plain_detail));
+		uint32_t answer = seatport_receive(&port, mframe, length, port_memory, room, &port_detail);
+		answered(answer, plain_receive(&plain, mframe, length, plain_memory, (size_t)room, &plain_detail));
+		hand_on(answer);
 		same(&port, &plain, sizeof port, "another receiving record");
 		same(&port_detail, &plain_detail, sizeof port_detail, "another detail");
 		same_memory();
@@ -368,7 +388,7 @@ static void step_all(void)
 	call = "step";
 	for (turn = 0; turn < STEPS; turn++) {
 		struct plain_link before = plain;
-		uint32_t event = one_in(30) ? odd_word() : one_in(8) ? chance(7) : PLAIN_MILLISECOND;
+		uint32_t event = one_in(30) ? odd_word() : one_in(8) ? between(PLAIN_V_HEARD, PLAIN_LINK_FAILED) : PLAIN_MILLISECOND;
 		uint32_t port_ordered = 7;
 		bool ordered = false, broken = one_in(10);
 		if (broken)
@@ -416,7 +436,7 @@ static void trace_all(void)
 			answered(number, plain_trace(trace, n, at, &plain));
 			if (port.start != plain.start - at || port.length != plain.length || port.next != plain.next - at)
 				fail("another content");
-			if (number != SEATPORT_RECORD)
+			if (number != SEATPORT_TRACED_RECORD)
 				break;
 			at = plain.next;
 		}

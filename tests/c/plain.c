@@ -421,7 +421,7 @@ static void enter(struct plain_link *l, enum plain_phase phase, uint32_t attempt
 
 int plain_event(struct plain_link *l, uint32_t event, bool *ordered)
 {
-	if (!link_in_range(l) || event > PLAIN_MILLISECOND)
+	if (!link_in_range(l) || event < PLAIN_V_HEARD || event > PLAIN_LINK_FAILED)
 		return 40;
 	*ordered = false;
 	switch ((enum plain_event)event) {

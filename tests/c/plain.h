@@ -30,14 +30,15 @@ struct plain_link {
 	uint32_t phase, attempt, left, owed;
 };
 
+/* What was heard has the number of the receiver's answer; the others have numbers that no answer has. */
 enum plain_event {
-	PLAIN_ENABLE,
-	PLAIN_DISABLE,
-	PLAIN_LINK_FAILED,
-	PLAIN_R_HEARD,
-	PLAIN_V_HEARD,
-	PLAIN_RESPONSE_SENT,
-	PLAIN_MILLISECOND
+	PLAIN_V_HEARD = 3,
+	PLAIN_R_HEARD = 4,
+	PLAIN_RESPONSE_SENT = 5,
+	PLAIN_MILLISECOND = 6,
+	PLAIN_ENABLE = 7,
+	PLAIN_DISABLE = 8,
+	PLAIN_LINK_FAILED = 9
 };
 
 /* Where the content of a record of a trace stands, and where the next record begins. */

@@ -20,11 +20,13 @@ class Phase(Enum):
 
 
 class Event(Enum):
-    ENABLE = 0
-    DISABLE = 1
-    LINK_FAILED = 2
-    R_HEARD = 3
-    V_HEARD = 4
+    """In the order of the table. What was heard has the number of the receiver's answer, the others numbers that no answer has."""
+
+    ENABLE = 7
+    DISABLE = 8
+    LINK_FAILED = 9
+    R_HEARD = 4
+    V_HEARD = 3
     RESPONSE_SENT = 5
     MILLISECOND = 6
 

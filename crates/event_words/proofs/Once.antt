@@ -1,12 +1,17 @@
 -- No second answer meets a promise of this crate.
 -- Assumes nothing.
 use mathlib.Core.Path.{_≡_, sym, _∙_}
+use mathlib.Core.Bool.{Bool}
 use Prim.Native.Nat.{ℕ}
 use Rattle.verify.specs.Verify.{said}
 use Rattle.verify.specs.declared.Answer.{Answer}
 use Rattle.verify.specs.declared.Event.{Event}
 use Rattle.words.specs.Words.{flag}
-use Rattle.event_words.specs.Events.{eventOf}
+use Rattle.event_words.specs.Events.{isEvent, eventOf}
+
+-- is_event
+pub is-event-once : (n : ℕ) {x y : Bool} → x ≡ isEvent n → y ≡ isEvent n → x ≡ y
+is-event-once n p q = p ∙ sym q
 
 -- event_of
 pub event-of-once : (n : ℕ) {x y : Event} → x ≡ eventOf n → y ≡ eventOf n → x ≡ y

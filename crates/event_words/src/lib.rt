@@ -4,20 +4,30 @@ use verify::Event;
 ghost use mathlib.Core.Path.{_≡_};
 ghost use Rattle.verify.specs.Verify.{said};
 ghost use Rattle.words.specs.Words.{flag};
-ghost use Rattle.event_words.specs.Events.{eventOf};
+ghost use Rattle.event_words.specs.Events.{isEvent, eventOf};
 
-// The event that a number is.
+// Whether a number is an event's. The receiver's answers 3 and 4 are those of what was heard; no other answer of it is an event.
+pub fn is_event(n: u32) -> bool
+    ensures { λ r. ⌜ r ≡ isEvent n ⌝ }
+{
+    if n < 3 {
+        return false;
+    }
+    n <= 9
+}
+
+// The event that it then is.
 pub fn event_of(n: u32) -> Event
     ensures { λ r. ⌜ r ≡ eventOf n ⌝ }
 {
     match n {
-        0 => Event::Enable,
-        1 => Event::Disable,
-        2 => Event::LinkFailed,
-        3 => Event::ResponseHeard,
-        4 => Event::VerifyHeard,
+        3 => Event::VerifyHeard,
+        4 => Event::ResponseHeard,
         5 => Event::ResponseSent,
-        _ => Event::Millisecond,
+        6 => Event::Millisecond,
+        7 => Event::Enable,
+        8 => Event::Disable,
+        _ => Event::LinkFailed,
     }
 }
 

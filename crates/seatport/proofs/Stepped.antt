@@ -1,6 +1,8 @@
 -- The promise of the verification event, told in words.
 -- Assumes nothing.
-use mathlib.Core.Path.{_≡_, ap, _∙_}
+use mathlib.Core.Path.{_≡_, refl, sym, ap, _∙_}
+use mathlib.Core.Logic.{_⊎_, inl, inr}
+use mathlib.Core.Bool.{Bool, true, false, _&&_, false≢true}
 use mathlib.Core.List.{List}
 use Prim.Native.Nat.{ℕ}
 use Rattle.verify.specs.Verify.{Told, said, told}
@@ -18,3 +20,9 @@ taken-words s h n o a =
       value = o ∙ ap (λ (t : Told). flag (t .said .ordered)) h;
       after = a ∙ ap (λ (t : Told). linkWords (t .after)) h;
     }
+
+-- what is refused where the words or the event are unfit
+pub refused : (fits event : Bool) {A B : Type 0} → A ⊎ B → (A → event ≡ false) → (B → fits ≡ false) → (fits && event) ≡ false
+refused false event s f g = refl
+refused true event (inl a) f g = f a
+refused true event (inr b) f g = absurd (false≢true (sym (g b)))

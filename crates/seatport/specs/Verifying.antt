@@ -1,13 +1,13 @@
 -- The verification event as C sees it: the number that is returned, whether a V is ordered, and the record's words afterwards.
 -- Assumes nothing.
 use mathlib.Core.Path.{_≡_}
-use mathlib.Core.Bool.{cond}
+use mathlib.Core.Bool.{cond, _&&_}
 use mathlib.Core.List.{List}
 use Prim.Native.Nat.{ℕ}
 use Rattle.verify.specs.Verify.{Told, stepOf}
 use Rattle.words.specs.Words.{flag}
 use Rattle.verify_words.specs.Link.{linkWords, linkFits, linkOf}
-use Rattle.event_words.specs.Events.{eventOf}
+use Rattle.event_words.specs.Events.{isEvent, eventOf}
 
 -- what comes of an event
 pub record Verifying : Type 0 where
@@ -23,7 +23,7 @@ abbrev pub unfit : List ℕ → Verifying
 unfit w = record { number = 40; ordered = 0; link = w }
 
 unfoldable pub verifyingOf : List ℕ → ℕ → Verifying
-verifyingOf w event = cond (linkFits w event) (told (stepOf (linkOf w) (eventOf event))) (unfit w)
+verifyingOf w event = cond (linkFits w && isEvent event) (told (stepOf (linkOf w) (eventOf event))) (unfit w)
 
 -- the promise of the event: the number, whether a V is ordered, and the record's words
 pub record Taken (p : Verifying) (number ordered : ℕ) (link : List ℕ) : Type 0 where

@@ -6,7 +6,7 @@ pub extern "C" fn seatport_step(link: &mut [u32; 4], event: u32, ordered: &mut u
     ensures { λ r. ⌜ Taken (verifyingOf (now (link .entry)) event) r (now (ordered .exit)) (now (link .exit)) ⌝ }
 {
     let words = *link;
-    if verify_words::link_fits(words, event) {
+    if verify_words::link_fits(words) && event_words::is_event(event) {
         let stepped = verify::step(verify_words::link_of(words), event_words::event_of(event));
         let answer = stepped.answer;
         let after = stepped.after;

@@ -4,7 +4,6 @@ use test_questions::read::Question;
 use test_questions::say;
 use test_questions::went::Went;
 use verify::Answer;
-use verify::Event;
 use verify_record::Phase;
 use verify_record::Record;
 
@@ -29,18 +28,6 @@ fn number_of(phase: Phase) -> u8 {
         Phase::Trying => 1,
         Phase::Verified => 2,
         Phase::Failed => 3,
-    }
-}
-
-fn event_of(x: u8) -> Event {
-    match x {
-        0 => Event::Enable,
-        1 => Event::Disable,
-        2 => Event::LinkFailed,
-        3 => Event::ResponseHeard,
-        4 => Event::VerifyHeard,
-        5 => Event::ResponseSent,
-        _ => Event::Millisecond,
     }
 }
 
@@ -86,12 +73,12 @@ fn record(kept: Kept, q: Question) -> Kept {
 }
 
 fn event(kept: Kept, q: Question) -> Kept {
-    let number = q.octet(1);
-    if 6 < number {
+    let number = q.octet(1) as u32;
+    if !event_words::is_event(number) {
         return after(kept, Went::Broken);
     }
     let r = kept.record;
-    let stepped = verify::step(r, event_of(number));
+    let stepped = verify::step(r, event_words::event_of(number));
     let answer = stepped.answer;
     let record = stepped.after;
     say_answer(answer);

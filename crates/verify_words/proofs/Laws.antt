@@ -16,9 +16,9 @@ use Rattle.verify_words.specs.Link.{phaseNumber, phaseOf, linkWords, lin
 use Rattle.rules.proofs.Tests.{both}
 
 -- what four words that are a record's have
-pub counts-known : (w : List ℕ) (event : ℕ) → linkFits w event ≡ true → (word w 1 ≤ 255) × (word w 2 ≤ 255)
+pub counts-known : (w : List ℕ) → linkFits w ≡ true → (word w 1 ≤ 255) × (word w 2 ≤ 255)
 unfolding linkFits
-counts-known w event e =
+counts-known w e =
     let a = both (leb (word w 0) 3) _ e in
     let b = both (isCount w 1) _ (a .1) in
     let c = both (isCount w 2) _ (b .1) in
@@ -43,12 +43,11 @@ pub link-read : (r : Link) → linkOf (linkWords r) ≡ r
 link-read r = simp (phase-read (r .phase), flag-read (r .owed))
 
 -- words that are a record's are what that record is written as
-pub link-written : (p a l o event : ℕ) → let w = p ∷ a ∷ l ∷ o ∷ [] in linkFits w event ≡ true → linkWords (linkOf w) ≡ w
+pub link-written : (p a l o : ℕ) → let w = p ∷ a ∷ l ∷ o ∷ [] in linkFits w ≡ true → linkWords (linkOf w) ≡ w
 unfolding linkFits
-link-written p a l o event q =
+link-written p a l o q =
     let w = p ∷ a ∷ l ∷ o ∷ [] in
     let x = both (leb p 3) _ q in
     let y = both (isCount w 1) _ (x .1) in
-    let z = both (isCount w 2) _ (y .1) in
-    let u = both (isFlag w 3) _ (z .1) in
-    simp (phase-written p (leb-true _ _ (x .0)), flag-written o (leb-true _ _ (u .0)))
+    let z = both (isCount w 2) (isFlag w 3) (y .1) in
+    simp (phase-written p (leb-true _ _ (x .0)), flag-written o (leb-true _ _ (z .1)))

@@ -8,8 +8,8 @@ use Rattle.verify_record.specs.declared.Record.{Record}
 use Rattle.verify_words.specs.Link.{linkWords, linkFits, linkOf}
 
 -- link_fits
-pub link-fits-once : (w : List ℕ) (event : ℕ) {x y : Bool} → x ≡ linkFits w event → y ≡ linkFits w event → x ≡ y
-link-fits-once w event p q = p ∙ sym q
+pub link-fits-once : (w : List ℕ) {x y : Bool} → x ≡ linkFits w → y ≡ linkFits w → x ≡ y
+link-fits-once w p q = p ∙ sym q
 
 -- link_of
 pub link-of-once : (w : List ℕ) {x y : Record} → x ≡ linkOf w → y ≡ linkOf w → x ≡ y

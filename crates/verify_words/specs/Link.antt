@@ -23,9 +23,9 @@ phaseOf n = cond (eqb n 0) Off (cond (eqb n 1) Trying (cond (eqb n 2) Verified F
 abbrev pub linkWords : Record → List ℕ
 linkWords r = phaseNumber (r .phase) ∷ r .attempt ∷ r .left ∷ flag (r .owed) ∷ []
 
--- whether four words are a record's and a number an event's, and the record that they then are
-unfoldable pub linkFits : List ℕ → ℕ → Bool
-linkFits w event = leb (word w 0) 3 && (isCount w 1 && (isCount w 2 && (isFlag w 3 && leb event 6)))
+-- whether four words are a record's, and the record that they then are
+unfoldable pub linkFits : List ℕ → Bool
+linkFits w = leb (word w 0) 3 && (isCount w 1 && (isCount w 2 && isFlag w 3))
 
 abbrev pub linkOf : List ℕ → Record
 linkOf w = record { phase = phaseOf (word w 0); attempt = word w 1; left = word w 2; owed = flagAt w 3 }

@@ -29,9 +29,9 @@ fn phase_of(n: u32) -> Phase
     }
 }
 
-// Whether four words are a verification record's, and a number an event's.
-pub fn link_fits(words: [u32; 4], event: u32) -> bool
-    ensures { λ r. ⌜ r ≡ linkFits words event ⌝ }
+// Whether four words are a verification record's.
+pub fn link_fits(words: [u32; 4]) -> bool
+    ensures { λ r. ⌜ r ≡ linkFits words ⌝ }
 {
     if 3 < words[0] {
         return false;
@@ -42,10 +42,7 @@ pub fn link_fits(words: [u32; 4], event: u32) -> bool
     if 255 < words[2] {
         return false;
     }
-    if 1 < words[3] {
-        return false;
-    }
-    event <= 6
+    words[3] <= 1
 }
 
 // The record that they then are.
