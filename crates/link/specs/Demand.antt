@@ -1,8 +1,8 @@
--- Demand 3 in the user's words, over the definitions that the contracts cite. Assumes nothing.
+-- Demand 3 in the project's own words, those of the README, over the definitions that the contracts cite. Assumes nothing.
 --
--- The contracts that tie these definitions to functions: `freshOf` to send's Record::fresh, `preemptableOf` to its preemptable; `expressOf` to
--- mframe's express, `orderOf` to its verify and respond, `headOf` to its head_of; `receivedOf` and `bufferOf` to receive's receive, `bodyOf` to its
--- express_body; `fresh` is the constant Record::FRESH of answers. A sending call leaves `over` what it wrote in its buffer.
+-- The contracts that tie these definitions to functions: `freshOf` to sender_record's Record::fresh, `preemptableOf` to send's preemptable;
+-- `expressOf` to single's express, `orderOf` to its verify and respond; `headOf` to heads' head_of; `fresh` to receiver_record's Record::fresh,
+-- `receivedOf` and `bufferOf` to receive's receive, `bodyOf` to express_body's. A sending call leaves `over` what it wrote in its buffer.
 use mathlib.Core.Path.{_≡_}
 use mathlib.Core.Bool.{true}
 use mathlib.Core.List.{List, _∷_}
@@ -29,10 +29,10 @@ InStep r buffer =
     → receiving r buffer (start ∷ rest) ≡ receiving fresh other (start ∷ rest)
 
 pub record Demand3 : Type 0 where
-  -- "Both ends fresh, preemption active, records and an assembly buffer of at least 1,518 octets handed on untouched but for hold and extra, each
-  -- frame's octets the same until its end. mFrames arrive unaltered, in order and once, except that some are lost, but never four preemptable
-  -- ones in a row, other kinds not counted. Then the frames delivered are exactly those sent to their end that lost no mFrame, each lane in its
-  -- sending order."
+  -- "Both ends start fresh, preemption active throughout, records and an assembly buffer of at least 1,518 octets handed on untouched but for hold
+  -- and extra, each frame's octets the same until its end. mFrames arrive unaltered, in order and once, except that some are lost, but never four
+  -- preemptable ones in a row, those of other kinds not counted. Then the frames delivered are exactly those sent to their end that lost no
+  -- mFrame, each lane in its sending order." (Active throughout: `sent` begins with an active record, and no call sets that field.)
   pub delivers : (calls : List Call) (buffer : List ℕ) → 1518 ≤ length buffer → SameToEnd none (sent calls) → NeverFour (fates (sent calls))
       → Delivers (sent calls) (receiving fresh buffer (arrivals (sent calls)))
   -- "And after any octets at all, from the next unrefused start of a preemptable frame on, a receiver delivers what a fresh one with as long a
