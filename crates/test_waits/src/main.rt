@@ -1,5 +1,6 @@
-// How long a press waits: the mFrames of a photograph that a press meets, and the longest wait over every frame and every moment. The picture
-// of the README is drawn from what this prints.
+// What a press waits for: the mFrames of a photograph that it meets, and the most octets that a frame keeps it waiting for once its data are on
+// the wire, over every frame and every moment, extra 0; header and gap are not among these. The picture of the README is drawn from what this
+// prints, and adds those two.
 use cut::Ask;
 use cut::Part;
 use sender_answers::Answer;
@@ -71,7 +72,7 @@ fn most(longest: usize) -> usize {
 }
 
 // The photograph, whole, as a port that isn't active sends it; then asked at its first octet to make way, the press, and the rest; then the
-// longest wait. An output that did not take a line does not take the last one's end either, so that nobody else has to ask.
+// most octets behind an ask. An output that did not take a line does not take the last one's end either, so that nobody else has to ask.
 fn main() {
     photograph(
         b"photograph whole",
