@@ -11,7 +11,7 @@ use Rattle.express_body.specs.declared.Part.{Part}
 pub part-in-once : (m : List ℕ) {x y : Part} → x ≡ partIn m → y ≡ partIn m → x ≡ y
 part-in-once m p q = p ∙ sym q
 
--- express_body: two parts that meet the promise have the same octets and lie at the same place of the same memory
+-- express_body: the octets, and where they lie
 pub express-body-once : (mframe : RefT (List ℕ)) {x y : RefT (List ℕ)} → HandedBack mframe x → HandedBack mframe y → (now x ≡ now y) × (ptr x ≡ ptr y)
 express-body-once mframe p q =
-    (p .octets ∙ sym (q .octets), ap₂ (λ (memory place : ℕ). (memory, place)) (p .memory ∙ sym (q .memory)) (p .place ∙ sym (q .place)))
+    (p .octets ∙ sym (q .octets), ap₂ (λ (block offset : ℕ). (block, offset)) (p .block ∙ sym (q .block)) (p .offset ∙ sym (q .offset)))

@@ -19,7 +19,7 @@ use Rattle.receiver_record.specs.Records.{fresh, inRange}
 use Rattle.assembly.specs.Steps.{stepOf}
 use Rattle.receive.specs.Receive.{byHead, receivedOf, dataIn}
 use Rattle.receive.proofs.Known.{knows, part}
-use Rattle.express_body.specs.Body.{expressDelivered, dataAt, bodyOf, placeOf, partIn}
+use Rattle.express_body.specs.Body.{expressDelivered, beginOf, bodyOf, placeOf, partIn}
 use Rattle.express_body.specs.declared.Part.{Part}
 use Rattle.express_body.proofs.Laws.{zero-delivers}
 
@@ -28,7 +28,7 @@ none = record { start = 0; length = 0 }
 
 -- the part by the head, and none of octets whose head is refused
 abbrev partBy : Bool → Reading → List ℕ → Part
-partBy b h m = record { start = cond b (dataAt h) 0; length = length (cond b (dataIn h m) []) }
+partBy b h m = record { start = cond b (beginOf h) 0; length = length (cond b (dataIn h m) []) }
 
 part-by : (m : List ℕ) → partIn m ≡ partBy (eqb (byHead (headOf m) m fresh .said .number) 0) (headOf m) m
 unfolding bodyOf placeOf receivedOf inRange

@@ -31,28 +31,29 @@ expressDelivered (K.Continuation frame fragment) octets = false
 expressDelivered K.Verify octets = false
 expressDelivered K.Respond octets = false
 
--- where the data of an mFrame begin, by its head
-abbrev pub dataAt : Reading → ℕ
-dataAt (known kind place) = place
-dataAt (refused number detail) = 0
-
--- the express body: the data "if it would be 0 with a fresh record and a buffer of 1,518, else the empty part at its front"
+-- whether "it would be 0 with a fresh record and a buffer of 1,518"
 abbrev pub delivered : List ℕ → Bool
 delivered m = eqb (receivedOf m fresh 1518 .said .number) 0
 
--- its octets, and the place from which on they lie in the mFrame
+-- the octets of the express body: the data, "else the empty part"
 unfoldable pub bodyOf : List ℕ → List ℕ
 bodyOf m = cond (delivered m) (dataIn (headOf m) m) []
 
-unfoldable pub placeOf : List ℕ → ℕ
-placeOf m = cond (delivered m) (dataAt (headOf m)) 0
+-- its place in the mFrame: where the head says that the data begin, else "at its front"
+abbrev pub beginOf : Reading → ℕ
+beginOf (known kind place) = place
+beginOf (refused number detail) = 0
 
--- the same as a place and a length
+unfoldable pub placeOf : List ℕ → ℕ
+placeOf m = cond (delivered m) (beginOf (headOf m)) 0
+
+-- both as numbers
 abbrev pub partIn : List ℕ → Part
 partIn m = record { start = placeOf m; length = length (bodyOf m) }
 
--- the promise of express_body: the part that is handed back has the body's octets, and is the caller's own memory from that place on
+-- the promise of express_body, "handed back as the caller's own octets": a slice is the octets in it and where it lies, a block of memory and an
+-- offset there; what is handed back has the body's octets, and lies in the mFrame's own block, at the body's place behind the mFrame's front
 pub record HandedBack (mframe part : RefT (List ℕ)) : Type 0 where
   pub octets : now part ≡ bodyOf (now mframe)
-  pub memory : part .ptr .0 ≡ mframe .ptr .0
-  pub place : part .ptr .1 ≡ mframe .ptr .1 + placeOf (now mframe)
+  pub block : part .ptr .0 ≡ mframe .ptr .0
+  pub offset : part .ptr .1 ≡ mframe .ptr .1 + placeOf (now mframe)

@@ -30,7 +30,7 @@ part-result-end c =
 returns : tie.Need-returns
 returns c =
     let e = c .before .before .part-in .ensures in
-    record { octets = part-lies _ e .same; memory = refl; place = omega (arith, ap (λ (p : Part). p .start) e) }
+    record { octets = part-lies _ e .same; block = refl; offset = omega (arith, ap (λ (p : Part). p .start) e) }
 
 pub express-body-spec : {M : Type 1} → statement M
 express-body-spec =
