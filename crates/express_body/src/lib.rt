@@ -1,4 +1,4 @@
-// The body of an express mFrame (document 01, "Receiving"), as the caller's own octets.
+// The body of an express mFrame (document 01, "Receiving"): where it lies, and as the caller's own octets.
 use endings::Ending;
 use heads::Head;
 use mframe::CHECK;
