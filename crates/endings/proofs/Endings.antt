@@ -8,7 +8,7 @@ use native.Mathlib.Omega.{arith}
 use borrow.Author.Tests.{eq-eqb, eqb-true}
 use lib.Dec.{T, eqb}
 use lib.ListN.{length, length-append, length-drop}
-use lib.Seq.{take-at, drop-at}
+use lib.Seq.{take-at, drop-at, length-take-le}
 use Rattle.rules.proofs.Tests.{both}
 use Rattle.crc.specs.Crc.{registerOver, fcsOf, mcrcOf}
 use Rattle.endings.specs.Judge.{dataOf, lastFour, same, decided, endingOf}
@@ -75,6 +75,10 @@ short-damaged r s h =
     let l : length (lastFour s) < 4 = simp length-drop (omega arith) in
     let q : ℕ = registerOver r (dataOf s) in
     damaged-if q _ _ (λ e. omega (arith, ap length e, fcs-length q)) (λ e. omega (arith, ap length e, mcrc-length q))
+
+-- how many octets are data
+pub data-length : (s : List ℕ) → length (dataOf s) ≡ length s - 4
+data-length s = length-take-le (length s - 4) s (omega arith)
 
 -- data with four octets behind them: the data, and the four
 module _ (data′ four : List ℕ) (h : length four ≡ 4) where

@@ -1,3 +1,4 @@
 pub mod Laws
+pub mod Lies
 pub mod Once
 pub mod Promise

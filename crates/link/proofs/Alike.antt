@@ -7,7 +7,6 @@ use native.Mathlib.Omega.{arith}
 use borrow.Author.Tests.{ltb-false}
 use lib.Dec.{eqb, ltb}
 use lib.ListN.{length, take}
-use lib.Seq.{length-take-le}
 use Rattle.octets.specs.Laid.{laid}
 use Rattle.codes.specs.Codes.{fragment, nextFragment}
 use Rattle.codes.specs.declared.FrameCount.{FrameCount}
@@ -28,7 +27,7 @@ use Rattle.continuing.specs.Continuing.{endedOf, unexpected, totalOf, continuat
 use Rattle.starting.specs.Starting.{startOf}
 use Rattle.assembly.specs.Steps.{expressOf, heardOf, stepOf}
 use Rattle.receive.specs.Receive.{leftOf}
-use Rattle.endings.proofs.Endings.{Ends, ends}
+use Rattle.endings.proofs.Endings.{data-length, Ends, ends}
 use Rattle.link.specs.Frames.{ifSo}
 use Rattle.link.proofs.Buffer.{keeps, as-long}
 
@@ -75,13 +74,10 @@ module _ (d B C : List ℕ) (long : length C ≡ length B) where
 
 -- the steps, of an mFrame's octets s behind its header
 module _ (s B C : List ℕ) (long : length C ≡ length B) (room : 1518 ≤ length B) where
-  size : length (dataOf s) ≡ length s - 4
-  size = length-take-le (length s - 4) s (omega arith)
-
   -- a start, whatever was in assembly
   pub start-match : length s ≤ 1522 → (f : FrameCount) (r q : Record) (e : Ending) → Ends allOnes s e → Match (dataOf s) B C (startOf f e r) (startOf f e q)
-  start-match h f r q (Done n) t = delivered-match (dataOf s) B C long 0 n (omega (arith, size)) (omega arith) refl _ _
-  start-match h f r q (More n run) t = kept-match (dataOf s) B C long 0 n (omega (arith, size, t .0)) (omega (arith, t .0)) refl f (fragment 0) run _ _
+  start-match h f r q (Done n) t = delivered-match (dataOf s) B C long 0 n (omega (arith, data-length s)) (omega arith) refl _ _
+  start-match h f r q (More n run) t = kept-match (dataOf s) B C long 0 n (omega (arith, data-length s, t .0)) (omega (arith, t .0)) refl f (fragment 0) run _ _
   start-match h f r q Damaged t = dropped-match (dataOf s) B C long _ _ (says 25 0) refl refl
 
   module _ (r : Record) (y : Counters) (same : take (r .kept) C ≡ take (r .kept) B) where
@@ -99,9 +95,9 @@ module _ (s B C : List ℕ) (long : length C ≡ length B) (room : 1518 ≤ leng
     heard-match n p q Damaged = unchanged-match (dataOf s) B C long r y (says 21 0) same refl refl
 
     ended-match : totalOf s r ≤ 1518 → (e : Ending) → Alikes (endedOf (totalOf s r) e)
-    ended-match h (Done n) = delivered-match (dataOf s) B C long (r .kept) (totalOf s r) (omega (arith, size)) (omega arith) same _ _
+    ended-match h (Done n) = delivered-match (dataOf s) B C long (r .kept) (totalOf s r) (omega (arith, data-length s)) (omega arith) same _ _
     ended-match h (More n run) =
-        kept-match (dataOf s) B C long (r .kept) (totalOf s r) (omega (arith, size)) (omega arith) same (r .frame) (nextFragment (r .fragment)) run _ _
+        kept-match (dataOf s) B C long (r .kept) (totalOf s r) (omega (arith, data-length s)) (omega arith) same (r .frame) (nextFragment (r .fragment)) run _ _
     ended-match h Damaged = dropped-match (dataOf s) B C long _ _ (says 25 0) refl refl
 
     continuation-match : (f : FrameCount) (g : FragmentCount) → Alikes (continuationOf f g s)

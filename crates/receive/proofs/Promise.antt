@@ -5,12 +5,11 @@ use mathlib.Core.Bool.{Bool, true, false, not, cond}
 use mathlib.Core.List.{List}
 use Prim.Native.Nat.{ℕ, _-_, _≤_, _<_}
 use native.Mathlib.Nat.{sub-zero}
-use native.Mathlib.Omega.{arith}
 use borrow.Author.Tests.{lt-ltb, le-ltb}
 use lib.ListN.{length, take, drop}
-use lib.Seq.{length-take-le}
 use Rattle.octets.specs.Laid.{laid}
 use Rattle.endings.specs.Judge.{dataOf}
+use Rattle.endings.proofs.Endings.{data-length}
 use Rattle.faults.specs.Faults.{faultNumber, faultDetail}
 use Rattle.heads.specs.Head.{reading, headOf}
 use Rattle.mframe.specs.declared.Kind.{Kind}
@@ -30,8 +29,7 @@ use Rattle.receive.proofs.Laws.{refused-writes, step-within}
 -- keep
 pub kept : (octets buffer : List ℕ) (end : ℕ) → laid buffer (end - (length octets - 4)) (take (length octets - 4 - 0) octets) ≡ upTo end (dataOf octets) buffer
 kept octets buffer end =
-    let n : length (dataOf octets) ≡ length octets - 4 = length-take-le (length octets - 4) octets (omega arith) in
-    ap₂ (λ (k : ℕ) (l : List ℕ). laid buffer (end - k) l) (sym n) (ap (λ (k : ℕ). take k octets) (sub-zero (length octets - 4)))
+    ap₂ (λ (k : ℕ) (l : List ℕ). laid buffer (end - k) l) (sym (data-length octets)) (ap (λ (k : ℕ). take k octets) (sub-zero (length octets - 4)))
 
 -- take
 module _ (kind : Kind) (octets : List ℕ) (r : Record) (b : List ℕ) (got : Received) {number : ℕ} {flag : Bool}

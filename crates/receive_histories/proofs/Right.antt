@@ -34,7 +34,7 @@ use Rattle.starting.specs.Starting.{startOf}
 use Rattle.assembly.specs.Steps.{expressOf, heardOf, stepOf}
 use Rattle.receive.specs.Receive.{byHead, receivedOf, upTo, leftOf, dataIn, bufferOf}
 use Rattle.heads.proofs.Heads.{Refusal, n12, n13, n14, n15, n16, n17, Good, head-good}
-use Rattle.endings.proofs.Endings.{Ends, ends}
+use Rattle.endings.proofs.Endings.{data-length, Ends, ends}
 
 -- an assembly that is open
 pub record Held (f : FrameCount) (g : FragmentCount) (n c : ℕ) (b : List ℕ) : Type 0 where
@@ -63,7 +63,7 @@ module _ (s b : List ℕ) (low : 64 ≤ length s) (high : length s ≤ 1522) (sp
   held : (f : FrameCount) (g : FragmentCount) (k n c run : ℕ) → f .0 < 4 → g .0 < 4 → n ≡ k + (length s - 4) → n ≤ 1518
       → run ≡ registerOver allOnes (take k b) → c ≡ registerOver run (dataOf s) → Held f g n c (upTo n (dataOf s) b)
   held f g k n c run hf hg e h q w =
-      let d : length (dataOf s) ≡ length s - 4 = length-take-le (length s - 4) s (omega arith) in
+      let d = data-length s in
       record {
         frame-low = hf;
         fragment-low = hg;

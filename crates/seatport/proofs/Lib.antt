@@ -1,6 +1,5 @@
 pub mod Once
 pub mod Packed
-pub mod Part
 pub mod Received
 pub mod Sent
 pub mod Short

@@ -4,13 +4,11 @@ use mathlib.Core.Path.{_≡_}
 use mathlib.Core.Bool.{cond}
 use mathlib.Core.List.{List, [], _∷_}
 use Prim.Native.Nat.{ℕ}
-use lib.Dec.{eqb, ltb}
+use lib.Dec.{ltb}
 use lib.ListN.{length}
-use Rattle.heads.specs.Head.{Reading, known, refused, headOf}
-use Rattle.receiver_record.specs.Records.{fresh}
 use Rattle.outcomes.specs.Outcomes.{Step}
 use Rattle.receive.specs.Receive.{receivedOf, bufferOf}
-use Rattle.express_body.specs.Body.{bodyOf}
+use Rattle.express_body.specs.Body.{bodyOf, placeOf}
 use Rattle.receiver_words.specs.Receiver.{receiverWords, receiverFits, receiverOf}
 
 -- what comes of a call
@@ -38,10 +36,6 @@ pub record Received (p : Receiving) (number detail : ℕ) (receiver buffer : Lis
   pub after : receiver ≡ p .receiver
   pub octets : buffer ≡ p .buffer
 
--- the express body: where the data start and how many they are, or the empty part at the mFrame's front
-abbrev pub startOf : Reading → ℕ
-startOf (known kind place) = place
-startOf (refused number detail) = 0
-
-unfoldable pub partOf : List ℕ → List ℕ
-partOf m = cond (eqb (receivedOf m fresh 1518 .said .number) 0) (startOf (headOf m) ∷ length (bodyOf m) ∷ []) (0 ∷ 0 ∷ [])
+-- the express body: the place where it starts in the mFrame, and how long it is
+abbrev pub partOf : List ℕ → List ℕ
+partOf m = placeOf m ∷ length (bodyOf m) ∷ []

@@ -1,6 +1,5 @@
 // The receiving calls.
 use mframe::BODY_MOST;
-use mframe::CHECK;
 ghost use mathlib.Core.Path.{_≡_};
 ghost use Rattle.seatport.specs.Receiving.{receivingOf, Received, partOf};
 
@@ -33,12 +32,8 @@ pub extern "C" fn seatport_receive(
 pub extern "C" fn seatport_express_body(mframe: &[u8], body: &mut [u32; 2])
     ensures { λ _. ⌜ now (body .exit) ≡ partOf (now (mframe .entry)) ⌝ }
 {
-    let part = express_body::express_body(mframe);
-    let n = part.len();
-    if n == 0 {
-        *body = [0, 0];
-        return;
-    }
-    let start = mframe.len() - CHECK - n;
-    *body = [start as u32, n as u32];
+    let part = express_body::part_in(mframe);
+    let start = part.start as u32;
+    let length = part.length as u32;
+    *body = [start, length];
 }

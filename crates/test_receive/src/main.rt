@@ -75,7 +75,7 @@ fn say_check(octets: &[u8]) {
     say::octets(crc::fcs(crc::over(crc::ALL_ONES, octets)));
 }
 
-// Where the express body begins. Only the call for C tells that: a program cannot see where a slice lies.
+// Where the express body begins, as the call for C tells it: a program cannot see where a slice lies.
 fn start_of_body(mframe: &[u8]) -> u32 {
     let mut part = [0u32; 2];
     seatport::seatport_express_body(mframe, &mut part);
