@@ -5,11 +5,11 @@
  * calls from several threads, need nothing but records and buffers of their own.
  *
  * +----------------------------------------------------------------------------------------------------------------------+
- * | Fragments, V and R are understood by this port only. Their check octets, the mCRC, are those of document 01, and     |
- * | other makers' boxes use others. Such a box drops each frame that this port cuts, and its V and R; this port drops    |
- * | theirs, with 25 and 21. The usual viewer calls our fragments corrupted. Express frames, and preemptable ones that    |
- * | nobody cuts, pass both ways. A link to such a box is never verified: a caller that sets active only once it is       |
- * | verified sends it no fragment.                                                                                       |
+ * | Fragments, V and R are understood only by ports built from this code. Their check octets, the mCRC, are those of     |
+ * | document 01, and other makers' boxes use others (docs/DECISIONS.md, 1). Such a box drops our V and R and each frame  |
+ * | that we cut; we answer theirs with 21, and with 25 and 22. The usual viewer calls our fragments corrupted. Express   |
+ * | frames, and preemptable ones that nobody cuts, pass both ways. A link to such a box is never verified: a caller that |
+ * | sets active only once the link is verified sends it no fragment.                                                     |
  * +----------------------------------------------------------------------------------------------------------------------+
  *
  * Link with libseatport.a. `rt staticlib seatport` makes it for x86-64, `make firmware` for a Cortex-M3 or another
@@ -21,7 +21,8 @@
  *
  * Lengths are uint64_t on every machine. All fields of a record are uint32_t; a flag is 0 or 1. Values that fit no record
  * are refused by number and change neither record nor buffer; what the call hands back beside its number (*written,
- * *detail, *ordered) is then 0. A record that is all zero is fresh: write `struct seatport_sender s = SEATPORT_SENDER_FRESH;`
+ * *detail, *ordered) is then 0. A record that is all zero is fresh: write
+ *     struct seatport_sender s = SEATPORT_SENDER_FRESH;
  * and set active, hold and extra as you need them.
  */
 #ifndef SEATPORT_H
@@ -29,8 +30,9 @@
 
 #include <stdint.h>
 
-/* Of this header and the archives made with it. The first number goes up where what was written for the version before may
- * have to change: a name, a number, a field, a function or what it does. The second goes up where something was added. */
+/* The version. The first number goes up where what was written for the version before may have to change: a name, a number,
+ * a field, a function or what it does. The second goes up where something was added. An archive does not say which header
+ * it was made with: keep the two together. */
 #define SEATPORT_VERSION_MAJOR 1
 #define SEATPORT_VERSION_MINOR 0
 

@@ -5,10 +5,12 @@ The archive gives code, tables and stack by function, plain.o in the folder the 
 QEMU counted. Ends with status 1 where a goal is missed.
 """
 
+import re
 import sys
 from pathlib import Path
 
-sys.path.insert(0, str(Path(__file__).resolve().parents[1] / "c"))
+ROOT = Path(__file__).resolve().parents[2]
+sys.path.insert(0, str(ROOT / "tests/c"))
 from elf import Object, members
 
 FUNCTION = 2
@@ -87,6 +89,16 @@ def depth(name, codes, way=()):
     return code.frame[name] + max((depth(n, codes, way + (name,)) for n in code.calls[name]), default=0)
 
 
+def needs_as_said(names):
+    """Header and docs/BOARD.md name what the port calls of the C library, and nothing else."""
+    sentence = f"Of the C library the port calls {', '.join(f'`{name}`' for name in sorted(names))}."
+    print(sentence)
+    for path, said in (("include/seatport.h", set(re.findall(r"__aeabi_\w+", (ROOT / "include/seatport.h").read_text())) == names),
+                       ("docs/BOARD.md", sentence in (ROOT / "docs/BOARD.md").read_text())):
+        if not said:
+            missed.append(f"{path} says something else of the C library")
+
+
 def main():
     made = Path(sys.argv[1])
     handed_over, = members(Path(sys.argv[2]).read_bytes())
@@ -97,9 +109,7 @@ def main():
     lines = sorted(([n, f"{s:,}"] for n, s in port.size.items()), key=lambda l: (-int(l[1].replace(",", "")), l[0]))
     lines += [[f"table {n.removeprefix('.rodata').lstrip('.')}", f"{s:,}"] for n, s in sorted(port.tables.items(), key=lambda t: -t[1])]
     table(["function", "octets"], lines + [["in all", f"{port.octets():,}"], ["plain C in all", f"{plain.octets():,}"]])
-    called = sorted(set().union(*(port.calls.values())) - set(port.size))
-    if called:
-        print(f"Of the C library the port calls {', '.join(called)}.")
+    needs_as_said(handed_over.undefined())
     goal("code and tables", port.octets(), MEMORY)
     goal("working memory of its own", port.writable, 0)
 
