@@ -27,16 +27,22 @@ void exit(int status)
 		semihost(EXIT, reason);
 }
 
+/* Ends the word at its space; what follows. */
+static char *behind(char *word)
+{
+	while (*word != 0 && *word != ' ')
+		word++;
+	if (*word != 0)
+		*word++ = 0;
+	return word;
+}
+
 /* The words of a line, parted by single spaces. One that begins with < names the standard input, as a shell has it. */
 static int words(char *line, char **argv)
 {
 	int argc = 0;
-	while (*line != 0 && argc < WORDS) {
-		char *word = line;
-		while (*line != 0 && *line != ' ')
-			line++;
-		if (*line != 0)
-			*line++ = 0;
+	for (char *word = line; *word != 0 && argc < WORDS; word = line) {
+		line = behind(word);
 		if (*word == '<')
 			freopen(word + 1, "rb", stdin);
 		else
