@@ -1,7 +1,8 @@
 /* Two ports in memory, joined by a wire: the button is pressed while a photograph is on its way. The press breaks into the
- * photograph, both arrive whole, and each mFrame is printed as it comes.
+ * photograph, both arrive whole, and each mFrame is printed as it comes. For x86-64, from the folder of the project, once
+ * `rt staticlib seatport` has made the archive:
  *
- *     cc -Iinclude examples/loopback.c libseatport.a -o loopback
+ *     cc -Iinclude examples/loopback.c target/staticlib/libseatport.a -o loopback
  */
 #include "seatport.h"
 
@@ -43,7 +44,7 @@ static int hear(const uint8_t *mframe, uint32_t length)
 int main(void)
 {
 	/* The port that sends, with preemption on. */
-	struct seatport_sender sender = { 0, 0, 0, 0, 0, 0, 0 };
+	struct seatport_sender sender = SEATPORT_SENDER_FRESH;
 	struct seatport_written written = { 0, 0 };
 	uint8_t photograph[PHOTOGRAPH], press[PRESS], output[SEATPORT_SIZE_OUTPUT];
 	uint64_t ask = PRESSED_AT;

@@ -4,18 +4,42 @@
  * the length of the call and keeps nothing: no allocation, no statics, no working memory but some stack. Several ports, or
  * calls from several threads, need nothing but records and buffers of their own.
  *
- * Link with libseatport.a. Every function is proved to do what is said here and never to touch other memory, provided that
+ * +----------------------------------------------------------------------------------------------------------------------+
+ * | Fragments, V and R are understood only by ports built from this code. Their check octets, the mCRC, are those of     |
+ * | document 01, and other makers' boxes use others (docs/DECISIONS.md, 1). Such a box drops our V and R and each frame  |
+ * | that we cut; we answer theirs with 21, and with 25 and 22. The usual viewer calls our fragments corrupted. Express   |
+ * | frames, and preemptable ones that nobody cuts, pass both ways. A link to such a box is never verified: a caller that |
+ * | sets active only once the link is verified sends it no fragment.                                                     |
+ * +----------------------------------------------------------------------------------------------------------------------+
+ *
+ * Link with libseatport.a. `rt staticlib seatport` makes it for x86-64, `make firmware` for a Cortex-M3 or another
+ * processor. For the Cortex-M3 it calls __aeabi_memcpy and __aeabi_memclr4 of the C library and nothing else, and reads and
+ * writes words at any address, which must not trap (docs/BOARD.md). Every function is proved to do what is said here and
+ * never to touch other memory, provided that
  *   - no pointer is null, also where a length is 0, and each points to as much memory as the call says;
  *   - pieces of memory lent to one call do not overlap, unless the call only reads both.
  *
  * Lengths are uint64_t on every machine. All fields of a record are uint32_t; a flag is 0 or 1. Values that fit no record
- * are refused by number and change nothing. A record that is all zero is fresh: write `struct seatport_sender s = {0};`,
+ * are refused by number and change neither record nor buffer; what the call hands back beside its number (*written,
+ * *detail, *ordered) is then 0. A record that is all zero is fresh: write
+ *     struct seatport_sender s = SEATPORT_SENDER_FRESH;
  * and set active, hold and extra as you need them.
  */
 #ifndef SEATPORT_H
 #define SEATPORT_H
 
 #include <stdint.h>
+
+/* The version. The first number goes up where what was written for the version before may have to change: a name, a number,
+ * a field, a function or what it does. The second goes up where something was added. An archive does not say which header
+ * it was made with: keep the two together. */
+#define SEATPORT_VERSION_MAJOR 1
+#define SEATPORT_VERSION_MINOR 0
+
+/* Fresh records, in C and in C++. */
+#define SEATPORT_SENDER_FRESH { 0, 0, 0, 0, 0, 0, 0 }
+#define SEATPORT_RECEIVER_FRESH { 0, 0, 0, 0, 0, 0, 0, 0, 0 }
+#define SEATPORT_LINK_FRESH { 0, 0, 0, 0 }
 
 #ifdef __cplusplus
 extern "C" {
@@ -83,7 +107,7 @@ uint32_t seatport_respond(uint8_t *output, uint64_t room, struct seatport_writte
 
 /* ---- Receiving ------------------------------------------------------------------------------------------------------ */
 
-/* What seatport_receive returns, and its detail where it has one. */
+/* What seatport_receive returns, and its detail; the detail is 0 where no line says otherwise. */
 enum seatport_answer {
 	SEATPORT_ANSWER_EXPRESS = 0,              /* express delivered; detail: body length. seatport_express_body says where it is */
 	SEATPORT_ANSWER_PREEMPTABLE = 1,          /* preemptable delivered; detail: body length. The body is at the buffer's front */

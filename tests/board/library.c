@@ -1,4 +1,4 @@
-/* What a C library has for the two: memcpy, memset, memcmp. */
+/* What a C library has of <string.h>, as far as port, plain C and tests use it. */
 #include <stdint.h>
 #include <string.h>
 
@@ -62,6 +62,19 @@ void *memset(void *to, int value, size_t n)
 	return to;
 }
 
+void *memmove(void *to, const void *from, size_t n)
+{
+	uint8_t *t = to;
+	const uint8_t *f = from;
+	if (t < f)
+		for (size_t i = 0; i < n; i++)
+			t[i] = f[i];
+	else
+		while (n-- > 0)
+			t[n] = f[n];
+	return to;
+}
+
 int memcmp(const void *a, const void *b, size_t n)
 {
 	const uint8_t *p = a, *q = b;
@@ -69,6 +82,21 @@ int memcmp(const void *a, const void *b, size_t n)
 		if (*p != *q)
 			return *p - *q;
 	return 0;
+}
+
+size_t strlen(const char *text)
+{
+	size_t n = 0;
+	while (text[n] != 0)
+		n++;
+	return n;
+}
+
+int strcmp(const char *a, const char *b)
+{
+	for (; *a != 0 && *a == *b; a++)
+		b++;
+	return (uint8_t)*a - (uint8_t)*b;
 }
 
 /* The names under which the compiler calls them. */
@@ -85,6 +113,11 @@ void __aeabi_memcpy4(void *to, const void *from, size_t n)
 void __aeabi_memcpy8(void *to, const void *from, size_t n)
 {
 	memcpy(to, from, n);
+}
+
+void __aeabi_memmove(void *to, const void *from, size_t n)
+{
+	memmove(to, from, n);
 }
 
 void __aeabi_memset(void *to, size_t n, int value)

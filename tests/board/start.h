@@ -1,12 +1,8 @@
+/* What start.c gives the programs of the board. */
 #ifndef BOARD_START_H
 #define BOARD_START_H
 
-#include <stdint.h>
-
-void put(const char *text);
-void put_number(uint32_t x);
-
-/* Ticks of 40 ns; QEMU counts an instruction as one nanosecond. */
-uint32_t ticks(void);
+/* One request to whoever runs the board, by the numbers of Arm's semihosting. */
+int semihost(int operation, const void *argument);
 
 #endif

@@ -1,15 +1,17 @@
 #!/usr/bin/env python3
-"""tables.py FOLDER: the tables of docs/BOARD.md from what tests/board/run made there.
+"""tables.py FOLDER ARCHIVE: the tables of docs/BOARD.md from what tests/board/run made.
 
-seatport.o gives code, tables and stack by function, plain.o the same in plain C, rows the instructions that QEMU counted.
-Ends with status 1 where a goal is missed.
+The archive gives code, tables and stack by function, plain.o in the folder the same in plain C, rows the instructions that
+QEMU counted. Ends with status 1 where a goal is missed.
 """
 
+import re
 import sys
 from pathlib import Path
 
-sys.path.insert(0, str(Path(__file__).resolve().parents[1] / "c"))
-from elf import Object
+ROOT = Path(__file__).resolve().parents[2]
+sys.path.insert(0, str(ROOT / "tests/c"))
+from elf import Object, members
 
 FUNCTION = 2
 CALLS = {10, 30, 51, 102}  # R_ARM_THM_CALL, _JUMP24, _JUMP19, _JUMP11: all by which Thumb code goes to another function
@@ -55,9 +57,8 @@ def leb128(octets, at):
 class Code:
     """The functions of an object, each in a section of its own: octets, stack frame, and whom it calls."""
 
-    def __init__(self, path):
-        self.object = Object(Path(path).read_bytes())
-        sections, symbols = self.object.sections, self.object.symbols
+    def __init__(self, thing):
+        sections, symbols = thing.sections, thing.symbols
         name = {s.section: s.name for s in symbols if s.kind == FUNCTION}
         self.size = {name[i]: s.size for i, s in enumerate(sections) if s.code and i in name}
         self.frame = {name[s.link]: leb128(s.octets, 4) for s in sections if s.name == ".stack_sizes" and s.link in name}
@@ -88,17 +89,27 @@ def depth(name, codes, way=()):
     return code.frame[name] + max((depth(n, codes, way + (name,)) for n in code.calls[name]), default=0)
 
 
+def needs_as_said(names):
+    """Header and docs/BOARD.md name what the port calls of the C library, and nothing else."""
+    sentence = f"Of the C library the port calls {', '.join(f'`{name}`' for name in sorted(names))}."
+    print(sentence)
+    for path, said in (("include/seatport.h", set(re.findall(r"__aeabi_\w+", (ROOT / "include/seatport.h").read_text())) == names),
+                       ("docs/BOARD.md", sentence in (ROOT / "docs/BOARD.md").read_text())):
+        if not said:
+            missed.append(f"{path} says something else of the C library")
+
+
 def main():
     made = Path(sys.argv[1])
-    port, plain, library = (Code(made / f"{name}.o") for name in ("seatport", "plain", "library"))
+    handed_over, = members(Path(sys.argv[2]).read_bytes())
+    port = Code(handed_over)
+    plain, library = (Code(Object((made / f"{name}.o").read_bytes())) for name in ("plain", "library"))
 
     print("\nCode and read-only tables, octets\n")
     lines = sorted(([n, f"{s:,}"] for n, s in port.size.items()), key=lambda l: (-int(l[1].replace(",", "")), l[0]))
     lines += [[f"table {n.removeprefix('.rodata').lstrip('.')}", f"{s:,}"] for n, s in sorted(port.tables.items(), key=lambda t: -t[1])]
     table(["function", "octets"], lines + [["in all", f"{port.octets():,}"], ["plain C in all", f"{plain.octets():,}"]])
-    called = sorted(set().union(*(port.calls.values())) - set(port.size))
-    if called:
-        print(f"Of the C library the port calls {', '.join(called)}.")
+    needs_as_said(handed_over.undefined())
     goal("code and tables", port.octets(), MEMORY)
     goal("working memory of its own", port.writable, 0)
 

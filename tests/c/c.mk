@@ -1,14 +1,18 @@
 # The C side, the board and the benchmark; the Makefile includes this file.
-.PHONY: c-test board bench
+.PHONY: c-test firmware board bench
 
-# The archive, the header, the example and the port against a second implementation in plain C. Part of make test.
-c-test:
+# What firmware and board compile for: the processor of the seat box, as firmware for small memories is compiled.
+TRIPLE ?= thumbv7m-none-eabi
+OPTIONS ?= -mcpu=cortex-m3 -Os
+
+c-test: ## archive, header, example and the port against plain C; part of make test
 	@tests/c/run
 
-# The port on a Cortex-M3 in QEMU: code, stack and instructions beside plain C (docs/BOARD.md).
-board:
-	@tests/board/run
+firmware: ## hands over the port for another processor: make firmware TRIPLE=.. OPTIONS=..
+	@scripts/firmware "$(TRIPLE)" "$(OPTIONS)"
 
-# The same comparison on the machine at hand, and mmlist beside tshark.
-bench:
+board: ## the port on a Cortex-M3 in QEMU: the stored vectors, code, stack and instructions
+	@tests/board/run "$(TRIPLE)" "$(OPTIONS)"
+
+bench: ## the port beside plain C on the machine at hand, and mmlist beside tshark
 	@tests/bench/run

@@ -1,6 +1,7 @@
 /* Holds the port, through its C boundary, against plain.c on random and damaged inputs: what is returned, every word of the
- * records and every octet of the lent memory, with octets behind it that nobody lent. The inputs are the same on every run.
- * Prints how often each number was returned, and fails if the two ever differ or a number was never reached. */
+ * records and every octet of the lent memory, with octets behind it that nobody lent. The inputs are the same on every
+ * machine: no two are drawn in one expression, where the compiler chooses the order. Prints how often each number was
+ * returned, and fails if the two ever differ or a number was never reached. */
 #include "plain.h"
 #include "seatport.h"
 
@@ -61,7 +62,7 @@ static uint32_t chance(uint32_t n)
 	state ^= state << 13;
 	state ^= state >> 7;
 	state ^= state << 17;
-	return (uint32_t)((state >> 32) % n);
+	return (uint32_t)(state >> 32) % n;
 }
 
 static uint32_t word(void)
@@ -99,6 +100,13 @@ static uint32_t odd_word(void)
 	return one_in(4) ? word() : odd[chance(sizeof odd / sizeof odd[0])];
 }
 
+/* Puts such a word into a record of so many. */
+static void spoil(void *record, uint32_t words)
+{
+	uint32_t place = chance(words), value = odd_word();
+	((uint32_t *)record)[place] = value;
+}
+
 /* The memory that is lent to each of the two. */
 static uint8_t port_memory[MEMORY + BEHIND], plain_memory[MEMORY + BEHIND];
 
@@ -117,6 +125,7 @@ static void same_memory(void)
 
 static uint64_t some_ask(void)
 {
+	uint32_t high;
 	switch (chance(6)) {
 	case 0:
 		return 0;
@@ -125,7 +134,8 @@ static uint64_t some_ask(void)
 	case 2:
 		return between(1380, 1530);
 	case 3:
-		return (uint64_t)word() << 32 | word();
+		high = word();
+		return (uint64_t)high << 32 | word();
 	default:
 		return chance(1530);
 	}
@@ -203,7 +213,7 @@ static void send_all(void)
 			fill(body, n);
 		}
 		if (one_in(12))
-			((uint32_t *)&plain)[chance(7)] = odd_word();
+			spoil(&plain, 7);
 		uint64_t ask = one_in(4) ? SEATPORT_NO_ASK : some_ask();
 		uint64_t room = some_room(SEATPORT_SIZE_OUTPUT);
 		struct seatport_sender port;
@@ -274,7 +284,8 @@ static void exchanged(struct plain_sender *s, uint8_t *body, uint32_t *n)
 			fill(body, *n);
 		}
 		s->extra = chance(4);
-		plain_preemptable(s, body, *n, !one_in(3), chance(600), mframe, sizeof mframe, &w);
+		bool asked = !one_in(3);
+		plain_preemptable(s, body, *n, asked, chance(600), mframe, sizeof mframe, &w);
 	}
 	length = w.length;
 }
@@ -282,21 +293,20 @@ static void exchanged(struct plain_sender *s, uint8_t *body, uint32_t *n)
 static void damage(void)
 {
 	static const uint8_t eleven[] = { 0xd5, 0xe6, 0x4c, 0x7f, 0xb3, 0x61, 0x52, 0x9e, 0x2a, 0x07, 0x19 };
-	switch (chance(8)) {
+	uint32_t which = chance(8), place = chance(which == 0 ? length : 8);
+	switch (which) {
 	case 0:
-		mframe[chance(length)] ^= (uint8_t)(1 << chance(8));
-		break;
 	case 1:
-		mframe[chance(8)] ^= (uint8_t)(1 << chance(8));
+		mframe[place] ^= (uint8_t)(1 << chance(8));
 		break;
 	case 2:
-		mframe[6 + chance(2)] = eleven[chance(11)];
+		mframe[6 + place % 2] = eleven[chance(11)];
 		break;
 	case 3:
-		mframe[6 + chance(2)] = (uint8_t)chance(256);
+		mframe[6 + place % 2] = (uint8_t)chance(256);
 		break;
 	case 4:
-		mframe[length - 1 - chance(4)] ^= (uint8_t)between(1, 255);
+		mframe[length - 1 - place % 4] ^= (uint8_t)between(1, 255);
 		break;
 	case 5:
 		length = near(one_in(2) ? 72 : 1530, MEMORY);
@@ -305,7 +315,7 @@ static void damage(void)
 		fill(mframe, length);
 		break;
 	default:
-		mframe[chance(8)] = 0x55;
+		mframe[place] = 0x55;
 		break;
 	}
 }
@@ -351,7 +361,7 @@ static void receive_all(void)
 		if (one_in(200))
 			plain.assembly_errors = plain.delimiter_errors = plain.assembled = plain.fragments = 0xffffffff;
 		if (broken)
-			((uint32_t *)&plain)[chance(5)] = odd_word();
+			spoil(&plain, 5);
 		uint64_t room = some_room(SEATPORT_SIZE_ASSEMBLY);
 		uint32_t plain_detail = 7, port_detail = 7;
 		memcpy(&port, &plain, sizeof port);
@@ -392,7 +402,7 @@ static void step_all(void)
 		uint32_t port_ordered = 7;
 		bool ordered = false, broken = one_in(10);
 		if (broken)
-			((uint32_t *)&plain)[chance(4)] = odd_word();
+			spoil(&plain, 4);
 		memcpy(&port, &plain, sizeof port);
 		answered(seatport_step(&port, event, &port_ordered), plain_event(&plain, event, &ordered));
 		same(&port, &plain, sizeof port, "another verification record");

@@ -90,6 +90,10 @@ class Object:
                     kind, symbol = (info & 0xFFFFFFFF, info >> 32) if wide else (info & 255, info >> 8)
                     self.sections[section.info].relocations.append(Relocation(place, kind, symbol))
 
+    def undefined(self):
+        """The names that it expects others to define."""
+        return {symbol.name for symbol in self.symbols if symbol.name and symbol.section == 0}
+
 
 def members(archive):
     """The ELF objects of an archive."""

@@ -1,8 +1,10 @@
-/* Runs stored questions through plain.c: vectors send|receive|verify < stdin > stdout. tests/reference/README.md has the
- * layout of the questions and of the answers; the expected output was made by the reference. */
-#include "plain.h"
+/* Runs stored questions through the calls of seatport.h, be they the port's or plain C's (plain_port.c):
+ * vectors send|receive|verify < stdin > stdout. tests/reference/README.md has the layout of the questions and of the
+ * answers; the expected output was made by the reference. */
+#include "seatport.h"
 
 #include <inttypes.h>
+#include <stdbool.h>
 #include <stdio.h>
 #include <stdlib.h>
 #include <string.h>
@@ -15,35 +17,45 @@ static void fail(const char *why)
 	exit(1);
 }
 
-/* A number of so many octets. The input may end only where no question is begun. */
-static uint64_t number(unsigned octets)
+/* Octets of a question. The input may end only where no question is begun. */
+static void take(uint8_t *octets, size_t n)
 {
-	uint64_t value = 0;
-	for (unsigned i = 0; i < octets; i++) {
+	if (n > LONGEST)
+		fail("a run of octets is too long");
+	for (size_t i = 0; i < n; i++) {
 		int c = getchar();
 		if (c == EOF)
 			fail("a question is cut");
-		value |= (uint64_t)c << 8 * i;
+		octets[i] = (uint8_t)c;
 	}
+}
+
+/* A number of so many octets, the lowest first. */
+static uint64_t number(unsigned n)
+{
+	uint8_t octets[8];
+	uint64_t value = 0;
+	take(octets, n);
+	while (n > 0)
+		value = value << 8 | octets[--n];
 	return value;
 }
 
-static void take(uint8_t *octets, size_t n)
+static uint32_t word(unsigned n)
 {
-	if (n > LONGEST || fread(octets, 1, n, stdin) != n)
-		fail("a run of octets is cut or too long");
+	return (uint32_t)number(n);
 }
 
 static size_t run(uint8_t *octets)
 {
-	size_t n = (size_t)number(2);
+	size_t n = word(2);
 	take(octets, n);
 	return n;
 }
 
 static size_t lend(uint8_t *memory)
 {
-	size_t n = (size_t)number(2);
+	size_t n = word(2);
 	if (n > LONGEST)
 		fail("more memory is asked for than there is");
 	uint64_t fill = number(1);
@@ -64,10 +76,10 @@ static void print_check(const uint8_t *octets, size_t n)
 		printf("%02x", (unsigned)(~r >> 8 * i & 0xff));
 }
 
-static void print_written(const char *name, int refusal, const struct plain_written *w, const uint8_t *out, size_t room)
+static void print_written(const char *name, uint32_t refusal, const struct seatport_written *w, const uint8_t *out, size_t room)
 {
 	if (refusal != 0)
-		printf("%s refused %d ", name, refusal);
+		printf("%s refused %" PRIu32 " ", name, refusal);
 	else
 		printf("%s %" PRIu32 " %" PRIu32 " ", name, w->length, w->done);
 	print_check(out, room);
@@ -79,68 +91,92 @@ static uint32_t clamped(uint64_t x)
 	return x > UINT32_MAX ? UINT32_MAX : (uint32_t)x;
 }
 
+static uint8_t body[LONGEST], out[LONGEST];
+static struct seatport_written written;
+
+static void express(void)
+{
+	size_t n = word(2), room = lend(out);
+	take(body, n);
+	uint32_t refusal = seatport_express(body, n, out, room, &written);
+	print_written("express", refusal, &written, out, room);
+	putchar('\n');
+}
+
+static void order(const char *name, uint32_t (*call)(uint8_t *, uint64_t, struct seatport_written *))
+{
+	size_t room = lend(out);
+	uint32_t refusal = call(out, room, &written);
+	print_written(name, refusal, &written, out, room);
+	putchar('\n');
+}
+
+/* The sending record, its two lengths as wide as they were asked. */
+struct wide_sender {
+	struct seatport_sender words;
+	uint64_t length, sent;
+};
+
+static void set_wishes(struct seatport_sender *s)
+{
+	s->active = word(1);
+	s->hold = word(1);
+	s->extra = word(1);
+}
+
+static void set_sender(struct wide_sender *s)
+{
+	set_wishes(&s->words);
+	s->words.next = word(1);
+	s->length = number(8);
+	s->sent = number(8);
+	s->words.fragment = word(1);
+}
+
+static void preemptable(struct wide_sender *s, const uint8_t *frame, size_t n)
+{
+	bool asked = number(1) != 0;
+	uint64_t place = number(8);
+	size_t room = lend(out);
+	s->words.length = clamped(s->length);
+	s->words.sent = clamped(s->sent);
+	uint32_t refusal = seatport_preemptable(&s->words, frame, n, asked ? place : SEATPORT_NO_ASK, out, room, &written);
+	if (refusal == 0) {
+		s->length = s->words.length;
+		s->sent = s->words.sent;
+	}
+	print_written("preemptable", refusal, &written, out, room);
+	printf(" %" PRIu32 " %" PRIu32 " %" PRIu32 " %" PRIu32 " %" PRIu64 " %" PRIu64 " %" PRIu32 "\n", s->words.active,
+	       s->words.hold, s->words.extra, s->words.next, s->length, s->sent, s->words.fragment);
+}
+
 static void send_questions(void)
 {
-	static uint8_t body[LONGEST], express[LONGEST], out[LONGEST];
-	struct plain_sender s = { 0, 0, 0, 0, 0, 0, 0 };
-	struct plain_written w = { 0, 0 };
-	uint64_t length = 0, sent = 0;
-	size_t n = 0, m, room;
-	int refusal;
+	static uint8_t frame[LONGEST];
+	struct wide_sender sender = { SEATPORT_SENDER_FRESH, 0, 0 };
+	size_t n = 0;
 	for (int question; (question = getchar()) != EOF;) {
 		switch (question) {
 		case 1:
-			m = (size_t)number(2);
-			room = lend(out);
-			take(express, m);
-			refusal = plain_express(express, m, out, room, &w);
-			print_written("express", refusal, &w, out, room);
-			putchar('\n');
+			express();
 			break;
 		case 2:
-			room = lend(out);
-			refusal = plain_verify(out, room, &w);
-			print_written("verify", refusal, &w, out, room);
-			putchar('\n');
+			order("verify", seatport_verify);
 			break;
 		case 3:
-			room = lend(out);
-			refusal = plain_respond(out, room, &w);
-			print_written("respond", refusal, &w, out, room);
-			putchar('\n');
+			order("respond", seatport_respond);
 			break;
 		case 4:
-			s.active = (uint32_t)number(1);
-			s.hold = (uint32_t)number(1);
-			s.extra = (uint32_t)number(1);
-			s.next = (uint32_t)number(1);
-			length = number(8);
-			sent = number(8);
-			s.fragment = (uint32_t)number(1);
+			set_sender(&sender);
 			break;
 		case 5:
-			n = run(body);
+			n = run(frame);
 			break;
-		case 6: {
-			bool asked = number(1) != 0;
-			uint64_t t = number(8);
-			room = lend(out);
-			s.length = clamped(length);
-			s.sent = clamped(sent);
-			refusal = plain_preemptable(&s, body, n, asked, t, out, room, &w);
-			if (refusal == 0) {
-				length = s.length;
-				sent = s.sent;
-			}
-			print_written("preemptable", refusal, &w, out, room);
-			printf(" %" PRIu32 " %" PRIu32 " %" PRIu32 " %" PRIu32 " %" PRIu64 " %" PRIu64 " %" PRIu32 "\n", s.active,
-			       s.hold, s.extra, s.next, length, sent, s.fragment);
+		case 6:
+			preemptable(&sender, frame, n);
 			break;
-		}
 		case 7:
-			s.active = (uint32_t)number(1);
-			s.hold = (uint32_t)number(1);
-			s.extra = (uint32_t)number(1);
+			set_wishes(&sender.words);
 			break;
 		default:
 			fail("no such question");
@@ -148,45 +184,61 @@ static void send_questions(void)
 	}
 }
 
+/* The receiving record, its length as wide as it was asked. */
+struct wide_receiver {
+	struct seatport_receiver words;
+	uint64_t kept;
+};
+
+static void set_receiver(struct wide_receiver *r)
+{
+	r->words.assembling = word(1);
+	r->words.frame = word(1);
+	r->words.fragment = word(1);
+	r->kept = number(8);
+	r->words.crc = word(4);
+	r->words.assembly_errors = word(4);
+	r->words.delimiter_errors = word(4);
+	r->words.assembled = word(4);
+	r->words.fragments = word(4);
+}
+
+static void receive(struct wide_receiver *wide, uint8_t *buffer, size_t room)
+{
+	static uint8_t mframe[LONGEST];
+	struct seatport_receiver *r = &wide->words;
+	struct seatport_part part;
+	uint32_t detail;
+	size_t n = run(mframe);
+	r->kept = clamped(wide->kept);
+	uint32_t answer = seatport_receive(r, mframe, n, buffer, room, &detail);
+	if (answer != SEATPORT_ANSWER_BUFFER_SHORT && answer != SEATPORT_ANSWER_RECORD_BAD)
+		wide->kept = r->kept;
+	printf("%" PRIu32 " %" PRIu32 " %" PRIu32 " %" PRIu32 " %" PRIu32 " %" PRIu64 " %08" PRIx32, answer, detail, r->assembling,
+	       r->frame, r->fragment, wide->kept, r->crc);
+	printf(" %" PRIu32 " %" PRIu32 " %" PRIu32 " %" PRIu32 " ", r->assembly_errors, r->delimiter_errors, r->assembled, r->fragments);
+	print_check(buffer, room);
+	seatport_express_body(mframe, n, &part);
+	printf(" %" PRIu32 " %" PRIu32 " ", part.start, part.length);
+	print_check(mframe + part.start, part.length);
+	putchar('\n');
+}
+
 static void receive_questions(void)
 {
-	static uint8_t mframe[LONGEST], buffer[LONGEST];
-	struct plain_receiver r = { 0, 0, 0, 0, 0, 0, 0, 0, 0 };
-	uint64_t kept = 0;
-	size_t n, room = 0, start, length;
-	uint32_t detail;
-	int answer;
+	static uint8_t buffer[LONGEST];
+	struct wide_receiver receiver = { SEATPORT_RECEIVER_FRESH, 0 };
+	size_t room = 0;
 	for (int question; (question = getchar()) != EOF;) {
 		switch (question) {
 		case 1:
-			r.assembling = (uint32_t)number(1);
-			r.frame = (uint32_t)number(1);
-			r.fragment = (uint32_t)number(1);
-			kept = number(8);
-			r.crc = (uint32_t)number(4);
-			r.assembly_errors = (uint32_t)number(4);
-			r.delimiter_errors = (uint32_t)number(4);
-			r.assembled = (uint32_t)number(4);
-			r.fragments = (uint32_t)number(4);
+			set_receiver(&receiver);
 			break;
 		case 2:
 			room = lend(buffer);
 			break;
 		case 3:
-			n = run(mframe);
-			r.kept = clamped(kept);
-			answer = plain_receive(&r, mframe, n, buffer, room, &detail);
-			if (answer != 10 && answer != 11)
-				kept = r.kept;
-			printf("%d %" PRIu32 " %" PRIu32 " %" PRIu32 " %" PRIu32 " %" PRIu64 " %08" PRIx32, answer, detail,
-			       r.assembling, r.frame, r.fragment, kept, r.crc);
-			printf(" %" PRIu32 " %" PRIu32 " %" PRIu32 " %" PRIu32 " ", r.assembly_errors, r.delimiter_errors,
-			       r.assembled, r.fragments);
-			print_check(buffer, room);
-			length = plain_express_body(mframe, n, &start);
-			printf(" %zu %zu ", start, length);
-			print_check(mframe + start, length);
-			putchar('\n');
+			receive(&receiver, buffer, room);
 			break;
 		default:
 			fail("no such question");
@@ -194,24 +246,29 @@ static void receive_questions(void)
 	}
 }
 
+static void step(struct seatport_link *l)
+{
+	uint32_t ordered, refusal = seatport_step(l, word(1), &ordered);
+	if (refusal != 0)
+		printf("refused %" PRIu32, refusal);
+	else
+		printf("%" PRIu32, ordered);
+	printf(" %" PRIu32 " %" PRIu32 " %" PRIu32 " %" PRIu32 "\n", l->phase, l->attempt, l->left, l->owed);
+}
+
 static void verify_questions(void)
 {
-	struct plain_link l = { 0, 0, 0, 0 };
-	bool ordered = false;
+	struct seatport_link link = SEATPORT_LINK_FRESH;
 	for (int question; (question = getchar()) != EOF;) {
 		switch (question) {
 		case 1:
-			l.phase = (uint32_t)number(1);
-			l.attempt = (uint32_t)number(1);
-			l.left = (uint32_t)number(1);
-			l.owed = (uint32_t)number(1);
+			link.phase = word(1);
+			link.attempt = word(1);
+			link.left = word(1);
+			link.owed = word(1);
 			break;
 		case 2:
-			if (plain_event(&l, (uint32_t)number(1), &ordered) != 0)
-				printf("refused 40");
-			else
-				printf("%d", ordered);
-			printf(" %" PRIu32 " %" PRIu32 " %" PRIu32 " %" PRIu32 "\n", l.phase, l.attempt, l.left, l.owed);
+			step(&link);
 			break;
 		default:
 			fail("no such question");

@@ -1,4 +1,5 @@
 #ifndef BOARD_STDDEF_H
 #define BOARD_STDDEF_H
 typedef __SIZE_TYPE__ size_t;
+#define NULL ((void *)0)
 #endif

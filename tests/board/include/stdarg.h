@@ -1,0 +1,7 @@
+#ifndef BOARD_STDARG_H
+#define BOARD_STDARG_H
+typedef __builtin_va_list va_list;
+#define va_start __builtin_va_start
+#define va_arg __builtin_va_arg
+#define va_end __builtin_va_end
+#endif

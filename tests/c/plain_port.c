@@ -1,0 +1,73 @@
+/* The calls of seatport.h made of plain.c's, so that what is written for the port can be run with plain C in its place. */
+#include "plain.h"
+#include "seatport.h"
+
+#include <string.h>
+
+/* A refused call hands back zeros. */
+static uint32_t sent(int number, const struct plain_written *made, struct seatport_written *written)
+{
+	written->length = number == 0 ? made->length : 0;
+	written->done = number == 0 ? made->done : 0;
+	return (uint32_t)number;
+}
+
+uint32_t seatport_express(const uint8_t *body, uint64_t length, uint8_t *output, uint64_t room, struct seatport_written *written)
+{
+	struct plain_written made;
+	int number = plain_express(body, (size_t)length, output, (size_t)room, &made);
+	return sent(number, &made, written);
+}
+
+uint32_t seatport_verify(uint8_t *output, uint64_t room, struct seatport_written *written)
+{
+	struct plain_written made;
+	int number = plain_verify(output, (size_t)room, &made);
+	return sent(number, &made, written);
+}
+
+uint32_t seatport_respond(uint8_t *output, uint64_t room, struct seatport_written *written)
+{
+	struct plain_written made;
+	int number = plain_respond(output, (size_t)room, &made);
+	return sent(number, &made, written);
+}
+
+uint32_t seatport_preemptable(struct seatport_sender *sender, const uint8_t *body, uint64_t length, uint64_t ask,
+			      uint8_t *output, uint64_t room, struct seatport_written *written)
+{
+	struct plain_sender record;
+	struct plain_written made;
+	memcpy(&record, sender, sizeof record);
+	int number = plain_preemptable(&record, body, (size_t)length, ask != SEATPORT_NO_ASK, ask, output, (size_t)room, &made);
+	memcpy(sender, &record, sizeof record);
+	return sent(number, &made, written);
+}
+
+uint32_t seatport_receive(struct seatport_receiver *receiver, const uint8_t *mframe, uint64_t length, uint8_t *buffer,
+			  uint64_t room, uint32_t *detail)
+{
+	struct plain_receiver record;
+	memcpy(&record, receiver, sizeof record);
+	int number = plain_receive(&record, mframe, (size_t)length, buffer, (size_t)room, detail);
+	memcpy(receiver, &record, sizeof record);
+	return (uint32_t)number;
+}
+
+void seatport_express_body(const uint8_t *mframe, uint64_t length, struct seatport_part *body)
+{
+	size_t start;
+	body->length = (uint32_t)plain_express_body(mframe, (size_t)length, &start);
+	body->start = (uint32_t)start;
+}
+
+uint32_t seatport_step(struct seatport_link *link, uint32_t event, uint32_t *ordered)
+{
+	struct plain_link record;
+	bool order = false;
+	memcpy(&record, link, sizeof record);
+	int number = plain_event(&record, event, &order);
+	memcpy(link, &record, sizeof record);
+	*ordered = order;
+	return (uint32_t)number;
+}
