@@ -182,7 +182,7 @@ enum seatport_event {
 /* What seatport_step returns. */
 enum seatport_stepped {
 	SEATPORT_STEPPED_TAKEN = 0,
-	SEATPORT_STEPPED_REFUSED = 40 /* record outside its ranges, or no such event: nothing changed */
+	SEATPORT_STEPPED_REFUSED = 40 /* record outside its ranges, or no such event: the record stays as it was */
 };
 
 struct seatport_link {

@@ -183,6 +183,29 @@ static void no_record(uint32_t which)
 	same_memory();
 }
 
+/* Another body, other settings or a frame in progress now and then, and sometimes a record that is none. */
+static void vary_sender(struct plain_sender *plain, uint8_t *body, uint32_t *n)
+{
+	if (plain->length == 0 || one_in(40)) {
+		*n = some_body();
+		fill(body, *n);
+	}
+	if (one_in(8)) {
+		plain->active = chance(4) != 0;
+		plain->hold = one_in(4);
+		plain->extra = chance(4);
+	}
+	if (one_in(16)) {
+		plain->length = between(118, 1519);
+		plain->sent = between(59, plain->length);
+		plain->fragment = chance(4);
+		*n = plain->length;
+		fill(body, *n);
+	}
+	if (one_in(12))
+		spoil(plain, 7);
+}
+
 static void send_all(void)
 {
 	static const unsigned numbers[] = { 0, 30, 31, 32, 33, 34 };
@@ -196,24 +219,7 @@ static void send_all(void)
 		}
 		call = "preemptable";
 		struct plain_sender before = plain;
-		if (plain.length == 0 || one_in(40)) {
-			n = some_body();
-			fill(body, n);
-		}
-		if (one_in(8)) {
-			plain.active = chance(4) != 0;
-			plain.hold = one_in(4);
-			plain.extra = chance(4);
-		}
-		if (one_in(16)) {
-			plain.length = between(118, 1519);
-			plain.sent = between(59, plain.length);
-			plain.fragment = chance(4);
-			n = plain.length;
-			fill(body, n);
-		}
-		if (one_in(12))
-			spoil(&plain, 7);
+		vary_sender(&plain, body, &n);
 		uint64_t ask = one_in(4) ? SEATPORT_NO_ASK : some_ask();
 		uint64_t room = some_room(SEATPORT_SIZE_OUTPUT);
 		struct seatport_sender port;
@@ -339,13 +345,38 @@ static void hand_on(uint32_t answer)
 	same(&link, &expected, sizeof link, "another verification record, the answer handed on");
 }
 
+/* The mFrame given to both. */
+static void receive_one(struct plain_receiver *plain)
+{
+	struct seatport_receiver port;
+	uint64_t room = some_room(SEATPORT_SIZE_ASSEMBLY);
+	uint32_t plain_detail = 7, port_detail = 7;
+	memcpy(&port, plain, sizeof port);
+	uint32_t answer = seatport_receive(&port, mframe, length, port_memory, room, &port_detail);
+	answered(answer, plain_receive(plain, mframe, length, plain_memory, (size_t)room, &plain_detail));
+	same(&port, plain, sizeof port, "another receiving record");
+	same(&port_detail, &plain_detail, sizeof port_detail, "another detail");
+	same_memory();
+	hand_on(answer);
+}
+
+/* Whether the mFrame has an express body; both say the same of it. */
+static bool express_body(void)
+{
+	struct seatport_part part = { 7, 7 };
+	size_t start, m = plain_express_body(mframe, length, &start);
+	seatport_express_body(mframe, length, &part);
+	if (part.start != start || part.length != m)
+		fail("another express body");
+	return m != 0;
+}
+
 static void receive_all(void)
 {
 	static const unsigned numbers[] = { 0, 1, 2, 3, 4, 10, 11, 12, 13, 14, 15, 16, 17, 20, 21, 22, 23, 24, 25 };
 	static uint8_t body[MEMORY];
 	struct plain_sender sender = { 1, 0, 0, 0, 0, 0, 0 };
 	struct plain_receiver plain = { 0, 0, 0, 0, 0, 0, 0, 0, 0 };
-	struct seatport_receiver port;
 	uint32_t n = 0, bodies = 0;
 	call = "receive";
 	lend();
@@ -362,22 +393,8 @@ static void receive_all(void)
 			plain.assembly_errors = plain.delimiter_errors = plain.assembled = plain.fragments = 0xffffffff;
 		if (broken)
 			spoil(&plain, 5);
-		uint64_t room = some_room(SEATPORT_SIZE_ASSEMBLY);
-		uint32_t plain_detail = 7, port_detail = 7;
-		memcpy(&port, &plain, sizeof port);
-		uint32_t answer = seatport_receive(&port, mframe, length, port_memory, room, &port_detail);
-		answered(answer, plain_receive(&plain, mframe, length, plain_memory, (size_t)room, &plain_detail));
-		hand_on(answer);
-		same(&port, &plain, sizeof port, "another receiving record");
-		same(&port_detail, &plain_detail, sizeof port_detail, "another detail");
-		same_memory();
-
-		struct seatport_part part = { 7, 7 };
-		size_t start, m = plain_express_body(mframe, length, &start);
-		seatport_express_body(mframe, length, &part);
-		if (part.start != start || part.length != m)
-			fail("another express body");
-		bodies += m != 0;
+		receive_one(&plain);
+		bodies += express_body();
 		if (broken)
 			plain = before;
 	}
