@@ -28,14 +28,14 @@ use Rattle.continuing.specs.Continuing.{endedOf, unexpected, totalOf, co
 use Rattle.continuing.specs.Tests.{Opened, Assembled, other, Fits, checkOf, takenOf}
 
 -- one that passed 22, 23 and 24, by the answer of 25
-abbrev checked : ℕ → Check → Record → Step
-checked total (Good rest) r = takenOf total rest r
-checked total Damaged r = abandoned (says 25 0) r
+abbrev checked : ℕ → Record → Check → Step
+checked total r (Good rest) = takenOf total rest r
+checked total r Damaged = abandoned (says 25 0) r
 
-by-check : (total : ℕ) (end : Ending) (r : Record) → checked total (checkOf end) r ≡ endedOf total end r
-by-check total (E.Done n) r = refl
-by-check total (E.More n running) r = refl
-by-check total E.Damaged r = refl
+by-check : (total : ℕ) (r : Record) (end : Ending) → checked total r (checkOf end) ≡ endedOf total end r
+by-check total r (E.Done n) = refl
+by-check total r (E.More n running) = refl
+by-check total r E.Damaged = refl
 
 module _ (f : FrameCount) (g : FragmentCount) (octets : List ℕ) (r : Record) where
   pub closed : {a : Assembly} → Assembled r a → a ≡ Closed → unchanged (says 22 0) r ≡ continuationOf f g octets r
@@ -71,16 +71,16 @@ module _ (f : FrameCount) (g : FragmentCount) (octets : List ℕ) (r : Record) w
 
     module _ {k : Counts} {w : Room} {n : ℕ} {end : Ending} {check : Check} (t : other k ≡ wrong) (q : k ≡ Expected)
         (z : Fits (kept + (length octets - 4)) w) (v : w ≡ Enough n) (j : end ≡ endingOf running octets) (d : check ≡ checkOf end) where
-      judged : checked n check r ≡ continuationOf f g octets r
+      judged : checked n r check ≡ continuationOf f g octets r
       unfolding continuationOf
       judged =
           let u = test false (sym t ∙ ap other q) in
           let x : (n ≡ kept + (length octets - 4)) × (kept + (length octets - 4) ≤ 1518) = rw v at z in
           let y : totalOf octets r ≤ 1518 = rw total at (x .1) in
-          ap (λ (k : Check). checked n k r) d ∙ by-check n end r ∙ simp (going .assembling, u, le-ltb _ _ y, j, going .running-is, x .0 ∙ total)
+          ap (checked n r) d ∙ by-check n r end ∙ simp (going .assembling, u, le-ltb _ _ y, j, going .running-is, x .0 ∙ total)
 
       pub damaged : check ≡ Damaged → abandoned (says 25 0) r ≡ continuationOf f g octets r
-      damaged e = ap (λ (k : Check). checked n k r) (sym e) ∙ judged
+      damaged e = ap (checked n r) (sym e) ∙ judged
 
       pub passed : {rest : Rest} → check ≡ Good rest → takenOf n rest r ≡ continuationOf f g octets r
-      passed e = ap (λ (k : Check). checked n k r) (sym e) ∙ judged
+      passed e = ap (checked n r) (sym e) ∙ judged
