@@ -1,6 +1,6 @@
--- A continuation by the answers of its tests: each of 22, 23 and 24 that fails leaves with its drop, and one that passes all goes by its ending.
+-- A continuation by the answers of its tests: each of 22, 23, 24 and 25 that fails leaves with its drop, and one that passes all is taken.
 -- Assumes nothing.
-use mathlib.Core.Path.{_≡_, sym, ap, _∙_}
+use mathlib.Core.Path.{_≡_, refl, sym, ap, _∙_}
 use mathlib.Core.Bool.{Bool, true, false, not, _&&_}
 use mathlib.Core.List.{List}
 use Prim.Native.Nat.{ℕ, _+_, _-_, _≤_, _<_}
@@ -11,6 +11,7 @@ use Rattle.codes.specs.declared.FrameCount.{FrameCount}
 use Rattle.codes.specs.declared.FragmentCount.{FragmentCount}
 use Rattle.endings.specs.Judge.{endingOf}
 use Rattle.endings.specs.declared.Ending.{Ending}
+use Rattle.endings.specs.declared.Ending.the-variants as E
 use Rattle.receiver_record.specs.declared.Record.{Record}
 use Rattle.continuing.specs.declared.Assembly.{Assembly}
 use Rattle.continuing.specs.declared.Assembly.the-variants.{Open, Closed}
@@ -18,10 +19,23 @@ use Rattle.continuing.specs.declared.Counts.{Counts}
 use Rattle.continuing.specs.declared.Counts.the-variants.{Expected, Other}
 use Rattle.continuing.specs.declared.Room.{Room}
 use Rattle.continuing.specs.declared.Room.the-variants.{Enough, Over}
+use Rattle.continuing.specs.declared.Rest.{Rest}
+use Rattle.continuing.specs.declared.Check.{Check}
+use Rattle.continuing.specs.declared.Check.the-variants.{Good, Damaged}
 use Rattle.receiver_answers.specs.Answers.{says}
-use Rattle.outcomes.specs.Outcomes.{unchanged, abandoned}
+use Rattle.outcomes.specs.Outcomes.{Step, unchanged, abandoned}
 use Rattle.continuing.specs.Continuing.{endedOf, unexpected, totalOf, continuationOf}
-use Rattle.continuing.specs.Tests.{Opened, Assembled, other, Fits}
+use Rattle.continuing.specs.Tests.{Opened, Assembled, other, Fits, checkOf, takenOf}
+
+-- one that passed 22, 23 and 24, by the answer of 25
+abbrev checked : ℕ → Record → Check → Step
+checked total r (Good rest) = takenOf total rest r
+checked total r Damaged = abandoned (says 25 0) r
+
+by-check : (total : ℕ) (r : Record) (end : Ending) → checked total r (checkOf end) ≡ endedOf total end r
+by-check total r (E.Done n) = refl
+by-check total r (E.More n running) = refl
+by-check total r E.Damaged = refl
 
 module _ (f : FrameCount) (g : FragmentCount) (octets : List ℕ) (r : Record) where
   pub closed : {a : Assembly} → Assembled r a → a ≡ Closed → unchanged (says 22 0) r ≡ continuationOf f g octets r
@@ -55,11 +69,18 @@ module _ (f : FrameCount) (g : FragmentCount) (octets : List ℕ) (r : Record) w
         let x : 1518 < totalOf octets r = rw total at (rw v at z) in
         simp (going .assembling, u, lt-ltb _ _ x)
 
-    pub passed : {k : Counts} {w : Room} {n : ℕ} {end : Ending} → other k ≡ wrong → k ≡ Expected → Fits (kept + (length octets - 4)) w → w ≡ Enough n
-        → end ≡ endingOf running octets → endedOf n end r ≡ continuationOf f g octets r
-    unfolding continuationOf
-    passed {n = n} t q z v j =
-        let u = test false (sym t ∙ ap other q) in
-        let x : (n ≡ kept + (length octets - 4)) × (kept + (length octets - 4) ≤ 1518) = rw v at z in
-        let y : totalOf octets r ≤ 1518 = rw total at (x .1) in
-        simp (going .assembling, u, le-ltb _ _ y, j, going .running-is, x .0 ∙ total)
+    module _ {k : Counts} {w : Room} {n : ℕ} {end : Ending} {check : Check} (t : other k ≡ wrong) (q : k ≡ Expected)
+        (z : Fits (kept + (length octets - 4)) w) (v : w ≡ Enough n) (j : end ≡ endingOf running octets) (d : check ≡ checkOf end) where
+      judged : checked n r check ≡ continuationOf f g octets r
+      unfolding continuationOf
+      judged =
+          let u = test false (sym t ∙ ap other q) in
+          let x : (n ≡ kept + (length octets - 4)) × (kept + (length octets - 4) ≤ 1518) = rw v at z in
+          let y : totalOf octets r ≤ 1518 = rw total at (x .1) in
+          ap (checked n r) d ∙ by-check n r end ∙ simp (going .assembling, u, le-ltb _ _ y, j, going .running-is, x .0 ∙ total)
+
+      pub damaged : check ≡ Damaged → abandoned (says 25 0) r ≡ continuationOf f g octets r
+      damaged e = ap (checked n r) (sym e) ∙ judged
+
+      pub passed : {rest : Rest} → check ≡ Good rest → takenOf n rest r ≡ continuationOf f g octets r
+      passed e = ap (checked n r) (sym e) ∙ judged

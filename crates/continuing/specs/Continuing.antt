@@ -16,10 +16,18 @@ use Rattle.counters.specs.Counters.{joined, completed}
 use Rattle.receiver_record.specs.Records.{shut, opened}
 use Rattle.outcomes.specs.Outcomes.{Step, unchanged, abandoned}
 
--- a continuation that passed 22, 23 and 24, with the octets kept and its data so many in all
+-- 1: "preemptable delivered .. not assembling after", with the octets kept and the data so many in all
+abbrev pub deliveredOf : ℕ → Record → Step
+deliveredOf total r = record { said = says 1 total; after = shut (completed (r .counters)) }
+
+-- 2: "fragment kept", with the register after it
+abbrev pub keptOf : ℕ → ℕ → Record → Step
+keptOf total running r = record { said = says 2 total; after = opened (r .frame) (nextFragment (r .fragment)) total running (joined (r .counters)) }
+
+-- a continuation that passed 22, 23 and 24
 abbrev pub endedOf : ℕ → Ending → Record → Step
-endedOf total (Done n) r = record { said = says 1 total; after = shut (completed (r .counters)) }
-endedOf total (More n running) r = record { said = says 2 total; after = opened (r .frame) (nextFragment (r .fragment)) total running (joined (r .counters)) }
+endedOf total (Done n) r = deliveredOf total r
+endedOf total (More n running) r = keptOf total running r
 endedOf total Damaged r = abandoned (says 25 0) r
 
 -- 23: "frame or fragment count not the expected"

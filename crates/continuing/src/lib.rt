@@ -1,5 +1,5 @@
-// What a continuation does to the receiving record (document 01, "Receiving"): its tests 22, 23 and 24, then by its check octets. All of it is
-// by value.
+// What a continuation does to the receiving record (document 01, "Receiving"): its tests 22, 23, 24 and 25, and what one that passes them does.
+// All of it is by value.
 use codes::FragmentCount;
 use codes::FrameCount;
 use endings::Ending;
@@ -14,8 +14,8 @@ ghost use mathlib.Core.Bool.{not, _&&_};
 ghost use Prim.Native.Nat.{_+_, _-_};
 ghost use lib.Dec.{eqb};
 ghost use Rattle.outcomes.specs.Outcomes.{told};
-ghost use Rattle.continuing.specs.Continuing.{endedOf, continuationOf};
-ghost use Rattle.continuing.specs.Tests.{Assembled, other, Fits};
+ghost use Rattle.continuing.specs.Continuing.{continuationOf};
+ghost use Rattle.continuing.specs.Tests.{Assembled, other, Fits, checkOf, takenOf};
 
 // Test 22: the assembly that a continuation goes on with.
 enum Assembly {
@@ -74,19 +74,41 @@ fn room_for(kept: usize, octets: usize) -> Room
     Room::Enough(kept + n)
 }
 
-// A continuation that passed 22, 23 and 24, by its ending.
-fn ended(total: usize, ending: Ending, record: Record) -> Received
-    ensures { λ r. ⌜ told r ≡ endedOf total ending «record» ⌝ }
+// Test 25: the last four octets, and what good ones say of the rest of the frame.
+enum Check {
+    Good(Rest),
+    Damaged,
+}
+
+// None is left, or more is to come from this register on.
+enum Rest {
+    Done,
+    More(u32),
+}
+
+fn check_of(ending: Ending) -> Check
+    ensures { λ k. ⌜ k ≡ checkOf ending ⌝ }
+{
+    match ending {
+        Ending::Done(_) => Check::Good(Rest::Done),
+        Ending::More(_, running) => Check::Good(Rest::More(running)),
+        Ending::Damaged => Check::Damaged,
+    }
+}
+
+// A continuation that passed them all, with the octets kept and its data so many in all.
+fn taken(total: usize, rest: Rest, record: Record) -> Received
+    ensures { λ r. ⌜ told r ≡ takenOf total rest «record» ⌝ }
 {
     let counters = record.counters;
     let frame = record.frame;
     let fragment = record.fragment;
-    match ending {
-        Ending::Done(_) => Received {
+    match rest {
+        Rest::Done => Received {
             answer: Answer::Delivered(total),
             after: Record::shut(counters.completed()),
         },
-        Ending::More(_, running) => Received {
+        Rest::More(running) => Received {
             answer: Answer::Kept(total),
             after: Record {
                 assembling: true,
@@ -97,7 +119,6 @@ fn ended(total: usize, ending: Ending, record: Record) -> Received
                 counters: counters.joined(),
             },
         },
-        Ending::Damaged => outcomes::abandoned(Drop::Damaged, record),
     }
 }
 
@@ -114,5 +135,8 @@ pub fn continuation(f: FrameCount, g: FragmentCount, octets: &[u8], record: Reco
     let Room::Enough(total) = room_for(kept, octets.len()) else {
         return outcomes::abandoned(Drop::Over, record);
     };
-    ended(total, endings::judge(running, octets), record)
+    let Check::Good(rest) = check_of(endings::judge(running, octets)) else {
+        return outcomes::abandoned(Drop::Damaged, record);
+    };
+    taken(total, rest, record)
 }

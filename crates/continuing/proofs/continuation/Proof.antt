@@ -1,6 +1,6 @@
 -- `continuing::continuation` meets its contract.
 -- Assumes nothing.
-use Rattle.continuing.proofs.Continuing.{closed, miscounted, too-long, passed}
+use Rattle.continuing.proofs.Continuing.{closed, miscounted, too-long, damaged, passed}
 use mathlib.Core.Path.{_∙_}
 use borrow.Author.Needs.{needs}
 use Rattle.continuing.proofs.continuation.Statement.{statement}
@@ -63,17 +63,41 @@ returns-3 c =
 judge-requires : tie.Need-judge-requires
 judge-requires c κs = search needs
 
-ended-requires : tie.Need-ended-requires
-ended-requires c κs = search needs
+check-of-requires : tie.Need-check-of-requires
+check-of-requires c κs = search needs
+
+enum-known-rest : tie.Need-enum-known-rest
+enum-known-rest c = search needs
+
+enum-told-5 : tie.Need-enum-told-5
+enum-told-5 c = search needs
+
+abandoned-requires-3 : tie.Need-abandoned-requires-3
+abandoned-requires-3 c κs = search needs
 
 returns-4 : tie.Need-returns-4
 returns-4 c =
-    let r = c .before .before .before in
+    let d = c .before .before .before in
+    let r = d .before .before .before in
     let k = r .before .before .before in
     let a = k .before .before .before .before in
-    c .ended .ensures
+    c .abandoned3 .ensures
+    ∙ damaged _ _ _ _ (a .before .before .assembly-of .ensures) (a .frame .given .1) (k .before .before .counts-of .ensures) (k .enum-told2 .given .1)
+    (r .before .before .room-for .ensures) (r .total .given .1) (d .before .judge .ensures) (d .check-of .ensures) (c .before .enum-told5 .given .1)
+
+taken-requires : tie.Need-taken-requires
+taken-requires c κs = search needs
+
+returns-5 : tie.Need-returns-5
+returns-5 c =
+    let e = c .before .before in
+    let d = e .before .before in
+    let r = d .before .before .before in
+    let k = r .before .before .before in
+    let a = k .before .before .before .before in
+    c .taken .ensures
     ∙ passed _ _ _ _ (a .before .before .assembly-of .ensures) (a .frame .given .1) (k .before .before .counts-of .ensures) (k .enum-told2 .given .1)
-    (r .before .before .room-for .ensures) (r .total .given .1) (c .before .judge .ensures)
+    (r .before .before .room-for .ensures) (r .total .given .1) (d .before .judge .ensures) (d .check-of .ensures) (e .rest .given .1)
 
 pub continuation-spec : {M : Type 1} → statement M
 continuation-spec =
@@ -95,5 +119,10 @@ continuation-spec =
     abandoned-requires-2
     returns-3
     judge-requires
-    ended-requires
-    returns-4)
+    check-of-requires
+    enum-known-rest
+    enum-told-5
+    abandoned-requires-3
+    returns-4
+    taken-requires
+    returns-5)
