@@ -1,5 +1,5 @@
 #!/usr/bin/env python3
-"""tables.py FOLDER ARCHIVE: the tables of docs/BOARD.md from what tests/board/run made.
+"""tables.py FOLDER ARCHIVE OPTIONS: the tables of docs/BOARD.md from what tests/board/run made with these options.
 
 The archive gives code, tables and stack by function, plain.o in the folder the same in plain C, rows the instructions that
 QEMU counted. Ends with status 1 where a goal is missed.
@@ -89,12 +89,16 @@ def depth(name, codes, way=()):
     return code.frame[name] + max((depth(n, codes, way + (name,)) for n in code.calls[name]), default=0)
 
 
-def needs_as_said(names):
-    """Header and docs/BOARD.md name what the port calls of the C library, and nothing else."""
-    sentence = f"Of the C library the port calls {', '.join(f'`{name}`' for name in sorted(names))}."
+def needs_as_said(options, names):
+    """Under the options of which docs/BOARD.md speaks, it and the header name what the port calls of the C library, and nothing else."""
+    words = f"Compiled with `{options}`, the port calls of the C library"
+    sentence = f"{words} {', '.join(f'`{name}`' for name in sorted(names))}."
     print(sentence)
+    page = (ROOT / "docs/BOARD.md").read_text()
+    if words not in page:
+        return
     for path, said in (("include/seatport.h", set(re.findall(r"__aeabi_\w+", (ROOT / "include/seatport.h").read_text())) == names),
-                       ("docs/BOARD.md", sentence in (ROOT / "docs/BOARD.md").read_text())):
+                       ("docs/BOARD.md", sentence in page)):
         if not said:
             missed.append(f"{path} says something else of the C library")
 
@@ -109,7 +113,7 @@ def main():
     lines = sorted(([n, f"{s:,}"] for n, s in port.size.items()), key=lambda l: (-int(l[1].replace(",", "")), l[0]))
     lines += [[f"table {n.removeprefix('.rodata').lstrip('.')}", f"{s:,}"] for n, s in sorted(port.tables.items(), key=lambda t: -t[1])]
     table(["function", "octets"], lines + [["in all", f"{port.octets():,}"], ["plain C in all", f"{plain.octets():,}"]])
-    needs_as_said(handed_over.undefined())
+    needs_as_said(sys.argv[3], handed_over.undefined())
     goal("code and tables", port.octets(), MEMORY)
     goal("working memory of its own", port.writable, 0)
 
