@@ -138,6 +138,41 @@ fn find(s: Standing, window: &[u8]) -> Found {
     }
 }
 
+// A good record, whose content ends at this place of the window: given to the receiver, and its line.
+fn list_record(
+    s: Standing,
+    content: &[u8],
+    end: usize,
+    buffer: &mut [u8],
+    out: &mut [u8],
+    at: usize,
+) -> Standing
+    requires { ⌜ at + 63 ≤ length (now out) ⌝ }
+{
+    let r = s.record;
+    let listed = listing::list(s.number, content, r, buffer, out, at);
+    let after = listed.after;
+    let mut t = s;
+    t.record = after;
+    t.number = std::num::wrapping_add_u64(s.number, 1);
+    t.from = end;
+    t.waiting = listed.next;
+    t
+}
+
+// A refused record: its line, and nothing is read behind it.
+fn stop(s: Standing, refusal: Refusal, out: &mut [u8], at: usize) -> Standing
+    requires { ⌜ at + 47 ≤ length (now out) ⌝ }
+{
+    let waiting = lines::stop_line(s.number, refusal.number() as u64, out, at);
+    let trouble = Trouble::Refused(refusal);
+    Standing {
+        waiting,
+        trouble,
+        ..s
+    }
+}
+
 // The last line, written with all that waits; then what is to be said of the trace.
 fn finish(s: Standing, out: &mut [u8], at: usize)
     requires { ⌜ at + 88 ≤ length (now out) ⌝ }
@@ -157,7 +192,7 @@ fn finish(s: Standing, out: &mut [u8], at: usize)
     }
 }
 
-// The line of what was found. A good record's content is given to the receiver; behind a refused one nothing is read.
+// The line of what was found, where there is room for one.
 fn put(
     s: Standing,
     found: Found,
@@ -165,41 +200,21 @@ fn put(
     buffer: &mut [u8; BODY_MOST],
     out: &mut [u8; 65536],
 ) -> Standing {
-    let r = s.record;
     let place = place_for_line(out, s.waiting);
     let at = place.at;
-    let mut t = s;
-    t.going = place.free;
-    if !place.free {
-        return t;
-    }
-    match found {
-        Found::Record { start, end } => {
-            let content = part(window, start, end);
-            let listed = listing::list(s.number, content, r, buffer, out, at);
-            let after = listed.after;
-            t.record = after;
-            t.number = std::num::wrapping_add_u64(s.number, 1);
-            t.from = end;
-            t.waiting = listed.next;
-            t
-        }
-        Found::Refused(refusal) => {
-            let number = refusal.number() as u64;
-            let waiting = lines::stop_line(s.number, number, out, at);
-            let trouble = Trouble::Refused(refusal);
-            Standing {
-                waiting,
-                trouble,
-                ..t
+    if place.free {
+        match found {
+            Found::Record { start, end } => {
+                let content = part(window, start, end);
+                return list_record(s, content, end, buffer, out, at);
             }
-        }
-        Found::Part | Found::End => {
-            finish(s, out, at);
-            t.going = false;
-            t
+            Found::Refused(refusal) => return stop(s, refusal, out, at),
+            Found::Part | Found::End => finish(s, out, at),
         }
     }
+    let mut t = s;
+    t.going = false;
+    t
 }
 
 fn turn(
