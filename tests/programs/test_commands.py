@@ -1,4 +1,4 @@
-"""The commands around the programs: scripts/list, scripts/run-program and make, wherever they are called and whatever a trace is named.
+"""The commands around the programs: scripts/list, scripts/run-program and make, wherever called and whatever a trace is named.
 
 mmlist must be built and unchanged (rt check mmlist). Where rt itself matters, a stand-in is on the path before it.
 """
@@ -115,7 +115,8 @@ class Streams(Commands):
         os.mkfifo(pipe)
         for command in ([LIST, "pipe"], make("list", "TRACE=pipe")):
             with self.subTest(command=command):
-                feeder = threading.Thread(target=pipe.write_bytes, args=[sample()[0]])
+                # A daemon, as it would wait for ever for a command that does not open the pipe.
+                feeder = threading.Thread(target=pipe.write_bytes, args=[sample()[0]], daemon=True)
                 feeder.start()
                 self.lists(command)
                 feeder.join()

@@ -84,13 +84,13 @@ def failing_behind(octets):
         with writer:
             writer.sendall(octets)
 
-    threading.Thread(target=feed).start()
+    threading.Thread(target=feed, daemon=True).start()
     return reader
 
 
 class Failures(unittest.TestCase):
     def each(self, names, sentence, answers=lambda name: b"", **how):
-        """Each program writes its answers, here none, and says its sentence once; where there is one, the status is 1."""
+        """Each program writes its answers, here none, and says its sentence once; status 1 where there is one."""
         for name in names:
             with self.subTest(name=name):
                 done = run(name, **how)
