@@ -6,13 +6,13 @@ TRIPLE ?= thumbv7m-none-eabi
 OPTIONS ?= -mcpu=cortex-m3 -Os
 
 c-test: ## archive, header, example and the port against plain C; part of make test
-	@tests/c/run
+	@$(project)/tests/c/run
 
-firmware: ## hands over the port for another processor: make firmware TRIPLE=.. OPTIONS=..
-	@scripts/firmware "$(TRIPLE)" "$(OPTIONS)"
+firmware: ## hands over the port for the board's Cortex-M3, with TRIPLE=.. OPTIONS=.. for another processor
+	@$(project)/scripts/firmware "$(TRIPLE)" "$(OPTIONS)"
 
 board: ## the port on a Cortex-M3 in QEMU: the stored vectors, code, stack and instructions
-	@tests/board/run "$(TRIPLE)" "$(OPTIONS)"
+	@$(project)/tests/board/run "$(TRIPLE)" "$(OPTIONS)"
 
 bench: ## the port beside plain C on the machine at hand, and mmlist beside tshark
-	@tests/bench/run
+	@$(project)/tests/bench/run

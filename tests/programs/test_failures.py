@@ -1,18 +1,21 @@
 """Every program where its input or its output fails: one sentence on standard error, and the program is at its end.
 
-The programs must be built (rt check). They have no exit status, so that what they say is all there is to compare.
+The programs must be built (rt check). They have no exit status; scripts/run-program gives 1 where one said something.
+test_commands.py has the commands around them.
 """
 
 import os
 import pty
 import signal
+import socket
 import subprocess
+import threading
 import unittest
 from pathlib import Path
 
 ROOT = Path(__file__).resolve().parents[2]
 RUN = str(ROOT / "scripts" / "run-program")
-LIST = str(ROOT / "scripts" / "list")
+TRACES = ROOT / "tests" / "traces"
 QUESTIONS = ("test_ground", "test_send", "test_receive", "test_verify", "test_link")
 READING = ("mmlist", *QUESTIONS)
 WRITING = (*READING, "test_waits")
@@ -43,6 +46,11 @@ def unread(name):
     return said(name, "the trace could not be read.", "the questions could not be read.")
 
 
+def nothing_listed(name):
+    """What a program writes where no octet could be read: the listing has its first and its last line all the same."""
+    return b"mm 1\nend 0 0 0 0\n" if name == "mmlist" else b""
+
+
 def broken(name):
     return said(name, None, "a question is cut off, or is none that tests/reference/README.md describes.")
 
@@ -64,13 +72,30 @@ def run(name, redirection="", **streams):
     return subprocess.run(["sh", "-c", f'exec "$@" {redirection}', "sh", RUN, name], check=False, **streams)
 
 
+def failing_behind(octets):
+    """A socket whose reader gets these octets, and then no end but an error.
+
+    The other side goes away with an octet unread, which the system tells as a connection reset.
+    """
+    reader, writer = socket.socketpair()
+    reader.send(b"x")
+
+    def feed():
+        with writer:
+            writer.sendall(octets)
+
+    threading.Thread(target=feed, daemon=True).start()
+    return reader
+
+
 class Failures(unittest.TestCase):
     def each(self, names, sentence, answers=lambda name: b"", **how):
-        """Each program writes its answers, here none, and says its sentence once."""
+        """Each program writes its answers, here none, and says its sentence once; status 1 where there is one."""
         for name in names:
             with self.subTest(name=name):
                 done = run(name, **how)
                 self.assertEqual((done.stdout or b"", done.stderr), (answers(name), sentence(name)))
+                self.assertEqual(done.returncode, 1 if sentence(name) else 0)
 
 
 class Input(Failures):
@@ -91,10 +116,63 @@ class Input(Failures):
             os.close(terminal)
 
     def test_a_folder(self):
-        self.each(READING, unread, redirection="<crates", cwd=ROOT)
+        self.each(READING, unread, nothing_listed, redirection="<crates", cwd=ROOT)
 
     def test_a_closed_input(self):
-        self.each(READING, unread, redirection="<&-")
+        self.each(READING, unread, nothing_listed, redirection="<&-")
+
+
+class Traces(Failures):
+    """mmlist, where a trace is cut or refused, or cannot be read to its end."""
+
+    REFUSED = {
+        50: b"mmlist: record 7 is cut off: the trace ends inside its header (50).\n",
+        51: b"mmlist: record 7 says that its content is longer than 1,600 octets (51).\n",
+        52: b"mmlist: record 7 is of a kind other than 1 (52).\n",
+        53: b"mmlist: record 7 is cut off: the trace ends inside it (53).\n",
+    }
+
+    def stored(self, name):
+        return (TRACES / f"{name}.trace").read_bytes(), (TRACES / f"{name}.listing").read_bytes()
+
+    def fails_behind(self, octets, listing, sentence):
+        with failing_behind(octets) as source:
+            self.each(["mmlist"], lambda name: sentence, lambda name: listing, stdin=source)
+
+    def test_a_refused_record(self):
+        for number, sentence in self.REFUSED.items():
+            with self.subTest(number=number):
+                octets, listing = self.stored(f"refused_{number}")
+                self.each(["mmlist"], lambda name: sentence, lambda name: listing, input=octets)
+
+    def test_the_sentence_stands_behind_the_listing(self):
+        octets, listing = self.stored("refused_53")
+        done = run("mmlist", input=octets, stderr=subprocess.STDOUT)
+        self.assertEqual(done.stdout, listing + self.REFUSED[53])
+
+    def test_a_read_that_fails_between_records(self):
+        for name in ("answers", "empty"):
+            with self.subTest(name=name):
+                octets, listing = self.stored(name)
+                self.fails_behind(octets, listing, unread("mmlist"))
+
+    def test_a_read_that_fails_inside_a_record(self):
+        # Nothing is known of a record that did not come whole, so that there is no line for it.
+        for number in (50, 53):
+            with self.subTest(number=number):
+                octets, listing = self.stored(f"refused_{number}")
+                self.fails_behind(octets, listing.replace(b"stop 7 %d\n" % number, b""), unread("mmlist"))
+
+    def test_a_read_that_fails_behind_a_header_that_is_refused(self):
+        # The header says enough: the trace would be read no further in any case.
+        for number in (51, 52):
+            with self.subTest(number=number):
+                octets, listing = self.stored(f"refused_{number}")
+                self.fails_behind(octets, listing, self.REFUSED[number])
+
+    def test_neither_read_nor_written(self):
+        with failing_behind(b"") as source:
+            self.each(["mmlist"], unwritten, redirection=">/dev/full", stdin=source)
 
 
 class Output(Failures):
@@ -142,26 +220,6 @@ class Questions(Failures):
         for name in QUESTIONS:
             octets, answers = stored(name)
             self.each([name], broken, lambda name: answers, input=octets + b"\xff")
-
-
-class Lists(unittest.TestCase):
-    """scripts/list, which has a status."""
-
-    def ends(self, arguments, sentence, redirection=""):
-        done = subprocess.run(["sh", "-c", f'exec "$@" {redirection}', "sh", LIST, *arguments], cwd=ROOT,
-                              capture_output=True, timeout=600, check=False)
-        self.assertEqual((done.returncode, done.stdout), (1, b""))
-        self.assertEqual(done.stderr.splitlines(keepends=True)[-1], sentence)
-
-    def test_a_trace_that_is_missing_or_a_folder(self):
-        for trace in ("missing", "crates"):
-            with self.subTest(trace=trace):
-                self.ends([trace], f"The trace {trace} cannot be read.\n".encode("ascii"))
-
-    def test_an_output_that_cannot_be_written(self):
-        for redirection in (">/dev/full", ">&-"):
-            with self.subTest(redirection=redirection):
-                self.ends([], unwritten("mmlist"), redirection)
 
 
 if __name__ == "__main__":

@@ -28,8 +28,8 @@ def stored(name):
 
 
 def fed(pieces):
-    """The listing of a trace that comes in these pieces, and the process's most memory in KiB."""
-    process = subprocess.Popen(COMMAND, stdin=subprocess.PIPE, stdout=subprocess.PIPE)
+    """The listing of a trace that comes in these pieces, and the most memory of any of its processes in KiB."""
+    process = subprocess.Popen(COMMAND, stdin=subprocess.PIPE, stdout=subprocess.PIPE, stderr=subprocess.DEVNULL)
     listing = []
     reader = threading.Thread(target=lambda: listing.append(process.stdout.read()))
     reader.start()

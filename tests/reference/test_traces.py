@@ -1,12 +1,88 @@
-"""Tests of traces.py: the stored traces contain what document 01's "Trace and listing" is to be run with."""
+"""Tests of traces.py: the stored traces contain what document 01's "Trace and listing" is to be run with.
+
+That they do is shown by listers that are wrong in one rule each: the listing of `answers` tells every one of them.
+"""
 
 import unittest
+from unittest import mock
 
+import codes
+import crc
+import mframe
 import mmlist
+import receiving
 import trace
 import traces
 
 NAMES = ["example", "row", "answers", "long", "refused_50", "refused_51", "refused_52", "refused_53", "empty"]
+
+HEARD = (receiving.VERIFY_HEARD, receiving.RESPOND_HEARD)
+RIGHT_ANSWER = receiving.whole_answer
+RIGHT_ENDING = crc.ending
+
+
+def heard_only_if(fits):
+    """V and R whose octets do not fit are dropped, whatever their check."""
+    def answer(kind, octets):
+        right = RIGHT_ANSWER(kind, octets)
+        return right if right.number not in HEARD or fits(octets) else receiving.Answer(receiving.VERIFICATION_DAMAGED)
+    return mock.patch.object(receiving, "whole_answer", answer)
+
+
+def heard_unless_zeros():
+    """V and R with other data than zeros are heard, whatever their check."""
+    def answer(kind, octets):
+        if kind == codes.EXPRESS or not any(octets[8:-4]):
+            return RIGHT_ANSWER(kind, octets)
+        return receiving.Answer(receiving.VERIFY_HEARD if kind == codes.VERIFY else receiving.RESPOND_HEARD)
+    return mock.patch.object(receiving, "whole_answer", answer)
+
+
+def heard_by_the_check_of_zeros():
+    """Of V and R the last four octets are compared with the mCRC of 60 zero octets, and the data are not looked at."""
+    def answer(kind, octets):
+        stored = octets[:8] + mframe.VERIFICATION_DATA + octets[-4:]
+        return RIGHT_ANSWER(kind, octets if kind == codes.EXPRESS else stored)
+    return mock.patch.object(receiving, "whole_answer", answer)
+
+
+def tested_in_order(*order, most=1518):
+    """A continuation is tested in this order, and so many octets are the most that are kept."""
+    def drop(assembly, frame_count, fragment_count, data_octets, end):
+        applies = {
+            22: not assembly.assembling,
+            23: (frame_count, fragment_count) != (assembly.frame_count, assembly.next_fragment_count),
+            24: assembly.kept + data_octets > most,
+            25: isinstance(end, crc.Damaged),
+        }
+        return next((number for number in order if applies[number]), None)
+    return mock.patch.object(receiving, "continuation_drop", drop)
+
+
+def begun_anew_taken_for(kind):
+    """Check octets that are right over a fragment's own data are taken as well, as done or as more."""
+    def ending(register, octets):
+        end, own = RIGHT_ENDING(register, octets), RIGHT_ENDING(crc.ALL_ONES, octets)
+        return own if isinstance(end, crc.Damaged) and isinstance(own, kind) else end
+    return mock.patch.object(crc, "ending", ending)
+
+
+WRONG = {
+    "V and R must be zeros": lambda: heard_only_if(lambda octets: not any(octets[8:-4])),
+    "V and R must have 72 octets": lambda: heard_only_if(lambda octets: len(octets) == 72),
+    "V and R under 1,530 octets": lambda: heard_only_if(lambda octets: len(octets) < 1530),
+    "V and R that are not zeros need no check": heard_unless_zeros,
+    "V and R with the check of zeros": heard_by_the_check_of_zeros,
+    "23 before 22": lambda: tested_in_order(23, 22, 24, 25),
+    "25 before 22": lambda: tested_in_order(25, 22, 23, 24),
+    "24 before 23": lambda: tested_in_order(22, 24, 23, 25),
+    "25 before 23": lambda: tested_in_order(22, 25, 23, 24),
+    "25 before 24": lambda: tested_in_order(22, 23, 25, 24),
+    "24 at 1,518": lambda: tested_in_order(22, 23, 24, 25, most=1517),
+    "24 from 1,520 on": lambda: tested_in_order(22, 23, 24, 25, most=1519),
+    "FCS over a fragment's own data": lambda: begun_anew_taken_for(crc.Done),
+    "mCRC over a fragment's own data": lambda: begun_anew_taken_for(crc.More),
+}
 
 
 class Traces(unittest.TestCase):
@@ -53,7 +129,26 @@ class Traces(unittest.TestCase):
         ])
         self.assertEqual(set(self.answers("answers")), {*range(5), *range(12, 18), *range(20, 26)})
         # The fragment that waited through all refused lengths is the first of a whole frame still.
-        self.assertEqual(self.listings["answers"][-3:-1], ["329 2 128", "330 1 200"])
+        self.assertEqual(self.listings["answers"][329:331], ["329 2 128", "330 1 200"])
+
+    def test_answers_that_one_rule_decides(self):
+        # Typed by hand, as above. V and R of seven lengths; drops that meet; 1,518 and 1,519 octets; checks begun anew.
+        self.assertEqual(self.answers("answers")[330:], [
+            *[3, 21, 21, 21, 4, 21, 21, 21] * 7,
+            22, 22,
+            2, 23, 2, 23, 2, 23, 2, 23, 2, 23, 2, 23, 2, 23, 2, 23,
+            2, 24, 2, 24, 2, 25,
+            *[2, 1, 2, 2, 2, 24, 2, 24] * 4, 2, 24, 2, 24,
+            *[2, 25, 2, 2, 25, 2, 2, 25] * 2, 2, 2, 1,
+        ])
+
+    def test_wrong_listers_are_told_from_a_right_one(self):
+        octets, right = self.traces["answers"], self.listings["answers"]
+        with tested_in_order(22, 23, 24, 25):
+            self.assertEqual(mmlist.listing(octets).splitlines(), right)
+        for name, wrong in WRONG.items():
+            with self.subTest(name), wrong():
+                self.assertNotEqual(mmlist.listing(octets).splitlines(), right)
 
     def test_lengths_of_good_records(self):
         lengths = {len(record.content) for record in trace.records(self.traces["answers"])}

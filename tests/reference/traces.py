@@ -120,9 +120,75 @@ def every_refused_length(chance):
     return mframes + [second, third]
 
 
+def verification_with_any_data(chance):
+    """V and R of many lengths whose data are not zeros, with a right check and with wrong ones: only the check decides."""
+    mframes = []
+    for length in (60, 61, 64, 100, 777, 1517, 1518):
+        data = chance.octets(length)
+        for header in (mframe.late_header(0x07), mframe.late_header(0x19)):
+            # 3 or 4; 21 by a turned bit, with the FCS, and with the mCRC of what V and R carry by the paper.
+            whole = header + data + crc.mcrc(data)
+            mframes += [whole, with_bit_turned(whole, 8 * (len(whole) - 1)), header + data + crc.fcs(data),
+                        header + data + crc.mcrc(mframe.VERIFICATION_DATA)]
+    return mframes
+
+
+def drops_that_meet(chance):
+    """Continuations to which two or three of 22 to 25 apply: the first of them answers."""
+    data, much = chance.octets(60), chance.octets(1500)
+    first = mframe.start(0, data, crc.mcrc(data))
+    long = mframe.start(0, much, crc.mcrc(much))
+    fits, over = crc.fcs(data + data), crc.fcs(much + data)
+
+    def after(start, *continuation):
+        return [start, mframe.continuation(*continuation)]
+
+    return [
+        # 22 of other counts than 0, with bad check octets.
+        mframe.continuation(2, 1, data, bytes(4)), mframe.continuation(0, 0, data, bytes(4)),
+        # 23 by either count: alone, with 25, with 24, with both.
+        *after(first, 1, 0, data, fits), *after(first, 0, 1, data, fits),
+        *after(first, 1, 0, data, bytes(4)), *after(first, 0, 1, data, bytes(4)),
+        *after(long, 1, 0, data, over), *after(long, 0, 1, data, over),
+        *after(long, 1, 0, data, bytes(4)), *after(long, 0, 1, data, bytes(4)),
+        # 24 alone, with 25; 25 alone.
+        *after(long, 0, 0, data, over), *after(long, 0, 0, data, bytes(4)), *after(first, 0, 0, data, bytes(4)),
+    ]
+
+
+def at_the_limit(chance):
+    """Octets kept and data of 1,518 together, which are kept or delivered, and of 1,519, which are 24, however right the check."""
+    octets = chance.octets(1519)
+    mframes = []
+    for kept in (60, 64, 759, 1458, 1459):
+        for together in (1518, 1519):
+            if together - kept < 60:
+                continue
+            for check in (crc.fcs, crc.mcrc):
+                mframes += [mframe.start(3, octets[:kept], crc.mcrc(octets[:kept])),
+                            mframe.continuation(3, 0, octets[kept:together], check(octets[:together]))]
+    return mframes
+
+
+def checks_begun_anew(chance):
+    """Continuations whose check is right over their own data, or from an earlier fragment on, and not over the frame: 25."""
+    body = chance.octets(200)
+    first, second, third = exchange.Sender().frame(body, 0)
+    own, later = body[64:128], body[128:]
+    mframes = []
+    for check in (crc.fcs, crc.mcrc):
+        mframes += [first, mframe.continuation(0, 0, own, check(own)),
+                    first, second, mframe.continuation(0, 1, later, check(later)),
+                    first, second, mframe.continuation(0, 1, later, check(own + later))]
+    # Undisturbed, the same frame is delivered.
+    return mframes + [first, second, third]
+
+
 def answers():
-    chance = Chance(SEED + 1)
-    return trace.written(every_answer(chance) + damage_in_every_field(chance) + every_refused_length(chance))
+    chance, more = Chance(SEED + 1), Chance(SEED + 4)
+    return trace.written(every_answer(chance) + damage_in_every_field(chance) + every_refused_length(chance)
+                         + verification_with_any_data(more) + drops_that_meet(more) + at_the_limit(more)
+                         + checks_begun_anew(more))
 
 
 def small_parts(chance, count):

@@ -1,9 +1,11 @@
 // The listing program: reads a trace on standard input, however it comes, and writes its listing. Memory does not grow with the trace: a
 // window of it, one frame in assembly and some lines are kept.
 mod parts;
+mod sentences;
 
 use crate::parts::front;
 use crate::parts::part;
+use crate::sentences::Trouble;
 use libc::STDERR_FILENO;
 use libc::STDIN_FILENO;
 use libc::STDOUT_FILENO;
@@ -11,6 +13,7 @@ use mframe::BODY_MOST;
 use receiver_record::Record;
 use trace::Cursor;
 use trace::Read;
+use trace::Refusal;
 ghost use Prim.Native.Nat.{_+_, _≤_};
 ghost use lib.ListN.{length};
 
@@ -20,8 +23,8 @@ const ENOUGH: usize = 1604;
 // The longest line.
 const LINE: usize = 88;
 
-// Where the listing stands: the receiving record, the next record's number, the part of the window not yet read, whether the input has
-// ended, how many octets of text wait to be written, whether the trace is read no further, and whether anything is left to do.
+// Where the listing stands: the receiving record, the next record's number, the part of the window not yet read, whether nothing more comes,
+// how many octets of text wait to be written, why the trace is listed no further, and whether anything is left to do.
 struct Standing {
     record: Record,
     number: u64,
@@ -29,7 +32,7 @@ struct Standing {
     to: usize,
     ended: bool,
     waiting: usize,
-    over: bool,
+    trouble: Trouble,
     going: bool,
 }
 
@@ -67,7 +70,8 @@ fn place_for_line(out: &[u8], waiting: usize) -> Place
     }
 }
 
-// One more read behind what is left in the window, which goes to its front.
+// One more read behind what is left in the window, which goes to its front. Behind a read that fails nothing comes; what was read before is
+// listed all the same.
 fn refill(s: Standing, window: &mut [u8]) -> Standing {
     let mut spare = [0u8; ENOUGH];
     let rest = front(part(window, s.from, s.to), ENOUGH);
@@ -75,17 +79,18 @@ fn refill(s: Standing, window: &mut [u8]) -> Standing {
     octets::copy_into(rest, &mut spare, 0);
     octets::copy_into(front(&spare, left), window, 0);
     let got = libc::read(STDIN_FILENO, &mut window[left..]);
-    let mut t = s;
-    if got < 0 {
-        io::write_all(STDERR_FILENO, b"mmlist: the trace could not be read.\n");
-        t.going = false;
-        return t;
-    }
     let more = io::count(got, window);
-    t.from = 0;
-    t.to = left + more;
-    t.ended = more == 0;
-    t
+    let mut trouble = Trouble::None;
+    if got < 0 {
+        trouble = Trouble::Unread;
+    }
+    Standing {
+        from: 0,
+        to: left + more,
+        ended: more == 0,
+        trouble,
+        ..s
+    }
 }
 
 // What stands at the window's front.
@@ -94,12 +99,24 @@ enum Found {
     Part,
     // A good record: where its content begins and ends.
     Record { start: usize, end: usize },
-    Refused(u64),
+    Refused(Refusal),
     End,
 }
 
+// A refused record. Where the input failed, nothing is known of a record that it did not give whole: that one is not refused.
+fn refused(refusal: Refusal, trouble: Trouble) -> Found {
+    let Trouble::Unread = trouble else {
+        return Found::Refused(refusal);
+    };
+    match refusal {
+        Refusal::Header | Refusal::Content => Found::End,
+        Refusal::Length | Refusal::Kind => Found::Refused(refusal),
+    }
+}
+
 fn find(s: Standing, window: &[u8]) -> Found {
-    if s.over {
+    let trouble = s.trouble;
+    if let Trouble::Refused(_) = trouble {
         return Found::End;
     }
     if !s.ended && part(window, s.from, s.to).len() < ENOUGH {
@@ -117,12 +134,65 @@ fn find(s: Standing, window: &[u8]) -> Found {
             end: next.at,
         },
         Read::End => Found::End,
-        Read::Refused(refusal) => Found::Refused(refusal.number() as u64),
+        Read::Refused(refusal) => refused(refusal, trouble),
     }
 }
 
-// The line of what was found. A good record's content is given to the receiver; behind a refused one nothing is read; the last line is
-// written with all that waits.
+// A good record, whose content ends at this place of the window: given to the receiver, and its line.
+fn list_record(
+    s: Standing,
+    content: &[u8],
+    end: usize,
+    buffer: &mut [u8],
+    out: &mut [u8],
+    at: usize,
+) -> Standing
+    requires { ⌜ at + 63 ≤ length (now out) ⌝ }
+{
+    let r = s.record;
+    let listed = listing::list(s.number, content, r, buffer, out, at);
+    let after = listed.after;
+    let mut t = s;
+    t.record = after;
+    t.number = std::num::wrapping_add_u64(s.number, 1);
+    t.from = end;
+    t.waiting = listed.next;
+    t
+}
+
+// A refused record: its line, and nothing is read behind it.
+fn stop(s: Standing, refusal: Refusal, out: &mut [u8], at: usize) -> Standing
+    requires { ⌜ at + 47 ≤ length (now out) ⌝ }
+{
+    let waiting = lines::stop_line(s.number, refusal.number() as u64, out, at);
+    let trouble = Trouble::Refused(refusal);
+    Standing {
+        waiting,
+        trouble,
+        ..s
+    }
+}
+
+// The last line, written with all that waits; then what is to be said of the trace.
+fn finish(s: Standing, out: &mut [u8], at: usize)
+    requires { ⌜ at + 88 ≤ length (now out) ⌝ }
+{
+    let c = s.record.counters;
+    let next = lines::end_line(
+        c.errors as u64,
+        c.delimiters as u64,
+        c.assembled as u64,
+        c.fragments as u64,
+        out,
+        at,
+    );
+    if write(out, next) {
+        let trouble = s.trouble;
+        trouble.say(s.number);
+    }
+}
+
+// The line of what was found, where there is room for one.
 fn put(
     s: Standing,
     found: Found,
@@ -130,45 +200,21 @@ fn put(
     buffer: &mut [u8; BODY_MOST],
     out: &mut [u8; 65536],
 ) -> Standing {
-    let r = s.record;
     let place = place_for_line(out, s.waiting);
     let at = place.at;
+    if place.free {
+        match found {
+            Found::Record { start, end } => {
+                let content = part(window, start, end);
+                return list_record(s, content, end, buffer, out, at);
+            }
+            Found::Refused(refusal) => return stop(s, refusal, out, at),
+            Found::Part | Found::End => finish(s, out, at),
+        }
+    }
     let mut t = s;
-    t.going = place.free;
-    if !place.free {
-        return t;
-    }
-    match found {
-        Found::Record { start, end } => {
-            let content = part(window, start, end);
-            let listed = listing::list(s.number, content, r, buffer, out, at);
-            let after = listed.after;
-            t.record = after;
-            t.number = std::num::wrapping_add_u64(s.number, 1);
-            t.from = end;
-            t.waiting = listed.next;
-            t
-        }
-        Found::Refused(refusal) => {
-            t.waiting = lines::stop_line(s.number, refusal, out, at);
-            t.over = true;
-            t
-        }
-        Found::Part | Found::End => {
-            let c = r.counters;
-            let next = lines::end_line(
-                c.errors as u64,
-                c.delimiters as u64,
-                c.assembled as u64,
-                c.fragments as u64,
-                out,
-                at,
-            );
-            write(out, next);
-            t.going = false;
-            t
-        }
-    }
+    t.going = false;
+    t
 }
 
 fn turn(
@@ -193,7 +239,7 @@ fn begin(out: &mut [u8; 65536]) -> Standing {
         to: 0,
         ended: false,
         waiting: lines::title(out, 0),
-        over: false,
+        trouble: Trouble::None,
         going: true,
     }
 }

@@ -1,0 +1,274 @@
+"""The commands around the programs: scripts/list, scripts/run-program and make, wherever called and whatever a trace is named.
+
+mmlist must be built and unchanged (rt check mmlist). Where rt itself matters, a stand-in is on the path before it.
+"""
+
+import os
+import platform
+import re
+import signal
+import shutil
+import socket
+import subprocess
+import tempfile
+import threading
+import unittest
+from pathlib import Path
+
+ROOT = Path(__file__).resolve().parents[2]
+LIST = str(ROOT / "scripts" / "list")
+TRACES = ROOT / "tests" / "traces"
+PROVING = b"Proving and building mmlist; what was proved before is not proved again.\n"
+ON_X86_64 = unittest.skipUnless(platform.machine() == "x86_64", "elsewhere an emulator that stands beside rt runs programs")
+
+# Lines of rt.
+UNCHANGED = "echo 'rt: trace proved (unchanged since it was last proved)'"
+PROVED = "echo 'rt: mmlist proved (3 s)'"
+
+# Names that a shell or make would take apart, or take for something else.
+NAMES = ("plain.trace", "it's.trace", 'a "b".trace', "two  words.trace", "$HOME.trace", "$(x) `y`.trace", "a#b.trace",
+         "a;b&c|d.trace", "a*b?.trace", "back\\slash.trace", "-x.trace", "--.trace", "é.trace")
+
+
+def sample():
+    folder = ROOT / "crates" / "mmlist"
+    return (folder / "stdin").read_bytes(), (folder / "stdout").read_bytes()
+
+
+def make(*words):
+    return ["make", "--no-print-directory", "-f", str(ROOT / "Makefile"), *words]
+
+
+class Commands(unittest.TestCase):
+    def setUp(self):
+        room = tempfile.TemporaryDirectory()
+        self.addCleanup(room.cleanup)
+        self.folder = Path(room.name)
+
+    def run_in_folder(self, command, **how):
+        if "input" not in how:
+            how.setdefault("stdin", subprocess.DEVNULL)
+        return subprocess.run(command, cwd=self.folder, stdout=subprocess.PIPE, stderr=subprocess.PIPE, timeout=600,
+                              check=False, **how)
+
+    def lists(self, command, **how):
+        """The command lists the sample and says nothing."""
+        done = self.run_in_folder(command, **how)
+        self.assertEqual((done.returncode, done.stdout, done.stderr), (0, sample()[1], b""))
+
+    def refuses(self, command, sentence, status=1, **how):
+        """The command lists nothing and says this sentence; make adds a line of its own."""
+        done = self.run_in_folder(command, **how)
+        self.assertEqual((done.returncode, done.stdout, done.stderr.splitlines()[:1]),
+                         (status, b"", [sentence.encode()]))
+
+
+class Names(Commands):
+    def test_none_is_the_sample(self):
+        for command in ([LIST], [LIST, ""], make("list"), make("list", "TRACE=")):
+            with self.subTest(command=command):
+                self.lists(command)
+
+    def test_each_name_in_the_callers_folder(self):
+        for name in NAMES:
+            (self.folder / name).write_bytes(sample()[0])
+            for command in ([LIST, name], make("list", f"TRACE={name}")):
+                with self.subTest(command=command):
+                    self.lists(command)
+
+    def test_a_name_from_the_environment(self):
+        (self.folder / "$HOME's.trace").write_bytes(sample()[0])
+        self.lists(make("list"), env={**os.environ, "TRACE": "$HOME's.trace"})
+
+    def test_a_name_with_folders(self):
+        (self.folder / "sub").mkdir()
+        (self.folder / "a.trace").write_bytes(sample()[0])
+        for name in ("sub/../a.trace", "./a.trace", str(self.folder / "a.trace")):
+            with self.subTest(name=name):
+                self.lists([LIST, name])
+
+    def test_make_in_another_folder_takes_a_name_there(self):
+        name = os.path.relpath(ROOT / "crates" / "mmlist" / "stdin", ROOT)
+        self.lists(["make", "--no-print-directory", "-C", str(ROOT), "list", f"TRACE={name}"])
+
+    def test_a_link_to_the_script(self):
+        (self.folder / "list").symlink_to(LIST)
+        self.lists([str(self.folder / "list")])
+
+    def test_missing_a_folder_or_not_to_be_opened(self):
+        (self.folder / "folder").mkdir()
+        listening = socket.socket(socket.AF_UNIX)
+        self.addCleanup(listening.close)
+        listening.bind(str(self.folder / "socket"))
+        for name in ("missing", "folder", "socket", "it's missing", "-missing", "%s"):
+            with self.subTest(name=name):
+                self.refuses([LIST, name], f"The trace {name} cannot be read.")
+                self.refuses(make("list", f"TRACE={name}"), f"The trace {name} cannot be read.", status=2)
+
+    def test_two_traces(self):
+        self.refuses([LIST, "a", "b"], "One trace is listed at a time, as in: scripts/list row.trace")
+
+
+class Streams(Commands):
+    def test_a_named_pipe(self):
+        pipe = self.folder / "pipe"
+        os.mkfifo(pipe)
+        for command in ([LIST, "pipe"], make("list", "TRACE=pipe")):
+            with self.subTest(command=command):
+                # A daemon, as it would wait for ever for a command that does not open the pipe.
+                feeder = threading.Thread(target=pipe.write_bytes, args=[sample()[0]], daemon=True)
+                feeder.start()
+                self.lists(command)
+                feeder.join()
+
+    def test_standard_input(self):
+        octets, _ = sample()
+        (self.folder / "a.trace").write_bytes(octets)
+        for command in ([LIST, "-"], [LIST, "/dev/stdin"], make("list", "TRACE=/dev/stdin"), make("list", "TRACE=-")):
+            with self.subTest(command=command):
+                self.lists(command, input=octets)
+                with open(self.folder / "a.trace", "rb") as file:
+                    self.lists(command, stdin=file)
+
+    def test_a_socket_as_standard_input(self):
+        reader, writer = socket.socketpair()
+        with reader:
+            with writer:
+                writer.sendall(sample()[0])
+            self.lists([LIST, "/dev/stdin"], stdin=reader)
+
+    def test_a_closed_standard_input(self):
+        self.refuses(["sh", "-c", f"exec '{LIST}' - <&-"], "The trace - cannot be read.")
+
+    def test_an_output_that_cannot_be_written(self):
+        for redirection in (">/dev/full", ">&-"):
+            with self.subTest(redirection=redirection):
+                self.refuses(["sh", "-c", f"exec '{LIST}' {redirection}"], "mmlist: the listing could not be written.")
+
+    def test_a_reader_that_goes_away(self):
+        for command in ([LIST], make("list")):
+            reader, writer = os.pipe()
+            os.close(reader)
+            with self.subTest(command=command), open(writer, "wb") as output:
+                done = subprocess.run(command, cwd=self.folder, stdin=subprocess.DEVNULL, stdout=output,
+                                      stderr=subprocess.PIPE, timeout=600, check=False)
+                self.assertEqual((done.returncode, done.stderr), (0, b""))
+
+    def test_a_cut_trace(self):
+        done = self.run_in_folder([LIST, str(TRACES / "refused_53.trace")])
+        self.assertEqual((done.returncode, done.stdout, done.stderr),
+                         (1, (TRACES / "refused_53.listing").read_bytes(),
+                          b"mmlist: record 7 is cut off: the trace ends inside it (53).\n"))
+
+
+@ON_X86_64
+class Proving(Commands):
+    """What scripts/list says of rt, which a stand-in plays."""
+
+    def listing_with(self, script):
+        """scripts/list, begun, with this as rt."""
+        stand_in = self.folder / "rt"
+        stand_in.write_text(f"#!/bin/sh\n{script}\n")
+        stand_in.chmod(0o755)
+        return subprocess.Popen([LIST], cwd=self.folder, stdin=subprocess.DEVNULL, stdout=subprocess.PIPE,
+                                stderr=subprocess.PIPE,
+                                env={**os.environ, "PATH": f"{self.folder}:{os.environ['PATH']}"})
+
+    def ends(self, process, status, listing, said):
+        self.assertEqual((*process.communicate(timeout=60), process.returncode), (listing, said, status))
+
+    def test_nothing_to_prove_is_not_said(self):
+        self.ends(self.listing_with(f"{UNCHANGED}; echo 'rt: ok, 1 crates proved'"), 0, sample()[1], b"")
+
+    def test_what_is_proved_is_said(self):
+        self.ends(self.listing_with(f"{UNCHANGED}; echo logic=proved; {PROVED}; echo 'rt: ok, 2 crates proved'"),
+                  0, sample()[1], PROVING + b"rt: mmlist proved (3 s)\n")
+
+    def test_it_is_said_while_a_crate_is_proved(self):
+        # The stand-in does not go on before the sentence was read.
+        os.mkfifo(self.folder / "go")
+        process = self.listing_with(f"{UNCHANGED}; read -r _ <'{self.folder}/go'; {PROVED}")
+        self.assertEqual(process.stderr.readline(), PROVING)
+        (self.folder / "go").write_text("\n")
+        self.ends(process, 0, sample()[1], b"rt: mmlist proved (3 s)\n")
+
+    def test_a_proof_that_fails(self):
+        failed = b"rt: mmlist NOT PROVED (exit 1, 3 s)\n"
+        self.ends(self.listing_with(f"echo 'error: no'; printf '{failed.decode()}'; exit 1"),
+                  1, b"", PROVING + failed + b"error: no\n" + failed + b"mmlist could not be proved, so it was not built.\n")
+
+    def test_no_rt(self):
+        for tool in ("bash", "dirname", "readlink"):
+            (self.folder / tool).symlink_to(shutil.which(tool))
+        self.refuses([LIST], "The Rattle kit is missing: there is no rt on the path.", env={"PATH": str(self.folder)})
+
+
+@ON_X86_64
+class RunProgram(Commands):
+    """scripts/run-program in a project of its own, with a program that a shell plays."""
+
+    def setUp(self):
+        super().setUp()
+        (self.folder / "target" / "bin").mkdir(parents=True)
+        shutil.copytree(ROOT / "scripts", self.folder / "scripts")
+        self.command = [str(self.folder / "scripts" / "run-program"), "talks"]
+
+    def program(self, script):
+        path = self.folder / "target" / "bin" / "talks"
+        path.write_text(f"#!/bin/sh\n{script}\n")
+        path.chmod(0o755)
+
+    def ends(self, script, status, written, said, command=None):
+        self.program(script)
+        done = self.run_in_folder(command or self.command)
+        self.assertEqual((done.returncode, done.stdout, done.stderr), (status, written, said))
+
+    def test_what_was_said_decides(self):
+        self.ends("echo out", 0, b"out\n", b"")
+        self.ends("echo out; echo no >&2; echo more", 1, b"out\nmore\n", b"no\n")
+        self.ends("printf no >&2", 1, b"", b"no\n")
+        self.ends("echo >&2", 1, b"", b"\n")
+        self.ends("exit 7", 7, b"", b"")
+
+    def test_a_closed_standard_error(self):
+        closed = ["sh", "-c", 'exec "$@" 2>&-', "sh", *self.command]
+        self.ends("echo out", 0, b"out\n", b"", closed)
+        self.ends("echo out; echo no >&2; true", 1, b"out\n", b"", closed)
+
+    def test_nothing_is_lost(self):
+        much = b"".join(b"line %d\n" % number for number in range(1, 20_001))
+        self.ends("i=1; while [ $i -le 20000 ]; do echo line $i; echo line $i >&2; i=$((i + 1)); done", 1, much, much)
+
+    def test_it_is_said_while_the_program_goes_on(self):
+        os.mkfifo(self.folder / "go")
+        self.program(f"echo first; echo no >&2; read -r _ <'{self.folder}/go'; echo last")
+        process = subprocess.Popen(self.command, stdout=subprocess.PIPE, stderr=subprocess.PIPE)
+        self.assertEqual((process.stdout.readline(), process.stderr.readline()), (b"first\n", b"no\n"))
+        (self.folder / "go").write_text("\n")
+        self.assertEqual((*process.communicate(timeout=60), process.returncode), (b"last\n", b"", 1))
+
+    def test_a_program_that_a_signal_ends(self):
+        self.program("kill -s PIPE $$")
+        self.assertEqual(self.run_in_folder(self.command).returncode, -signal.SIGPIPE)
+
+    def test_no_program(self):
+        self.refuses([*self.command, "more"],
+                     "run-program: the name of a program is missing, as in: scripts/run-program mmlist <row.trace")
+        self.refuses(self.command, "run-program: there is no target/bin/talks; rt check talks proves and builds it.")
+
+
+class Help(Commands):
+    def test_every_target_has_a_line(self):
+        text = "".join((ROOT / name).read_text() for name in ("Makefile", "tests/c/c.mk"))
+        targets = " ".join(re.findall(r"^\.PHONY: (.*)$", text, re.MULTILINE)).split()
+        self.assertLessEqual({"help", "list", "test", "c-test", "board", "bench"}, set(targets))
+        for command in (make("help"), make()):
+            done = self.run_in_folder(command)
+            self.assertEqual((done.returncode, done.stderr), (0, b""))
+            lines = [line.split(maxsplit=2) for line in done.stdout.decode().splitlines()]
+            self.assertEqual([line[:2] for line in lines], [["make", target] for target in targets])
+            self.assertTrue(all(len(line) == 3 for line in lines))
+
+
+if __name__ == "__main__":
+    unittest.main()
