@@ -6,8 +6,9 @@ mmlist must be built and unchanged (rt check mmlist). Where rt itself matters, a
 import os
 import platform
 import re
-import signal
+import select
 import shutil
+import signal
 import socket
 import subprocess
 import tempfile
@@ -50,6 +51,23 @@ class Commands(unittest.TestCase):
             how.setdefault("stdin", subprocess.DEVNULL)
         return subprocess.run(command, cwd=self.folder, stdout=subprocess.PIPE, stderr=subprocess.PIPE, timeout=600,
                               check=False, **how)
+
+    def begun(self, command, **how):
+        """The command, going on; whatever is left of it when the test ends is ended too."""
+        process = subprocess.Popen(command, cwd=self.folder, stdin=subprocess.DEVNULL, stdout=subprocess.PIPE,
+                                   stderr=subprocess.PIPE, start_new_session=True, **how)
+
+        def end():
+            if process.returncode is None:
+                os.killpg(process.pid, signal.SIGKILL)
+                process.communicate()
+
+        self.addCleanup(end)
+        return process
+
+    def next_line(self, stream):
+        self.assertTrue(select.select([stream], [], [], 60)[0], "no line came within a minute")
+        return stream.readline()
 
     def lists(self, command, **how):
         """The command lists the sample and says nothing."""
@@ -170,9 +188,7 @@ class Proving(Commands):
         stand_in = self.folder / "rt"
         stand_in.write_text(f"#!/bin/sh\n{script}\n")
         stand_in.chmod(0o755)
-        return subprocess.Popen([LIST], cwd=self.folder, stdin=subprocess.DEVNULL, stdout=subprocess.PIPE,
-                                stderr=subprocess.PIPE,
-                                env={**os.environ, "PATH": f"{self.folder}:{os.environ['PATH']}"})
+        return self.begun([LIST], env={**os.environ, "PATH": f"{self.folder}:{os.environ['PATH']}"})
 
     def ends(self, process, status, listing, said):
         self.assertEqual((*process.communicate(timeout=60), process.returncode), (listing, said, status))
@@ -188,7 +204,7 @@ class Proving(Commands):
         # The stand-in does not go on before the sentence was read.
         os.mkfifo(self.folder / "go")
         process = self.listing_with(f"{UNCHANGED}; read -r _ <'{self.folder}/go'; {PROVED}")
-        self.assertEqual(process.stderr.readline(), PROVING)
+        self.assertEqual(self.next_line(process.stderr), PROVING)
         (self.folder / "go").write_text("\n")
         self.ends(process, 0, sample()[1], b"rt: mmlist proved (3 s)\n")
 
@@ -220,8 +236,8 @@ class RunProgram(Commands):
 
     def ends(self, script, status, written, said, command=None):
         self.program(script)
-        done = self.run_in_folder(command or self.command)
-        self.assertEqual((done.returncode, done.stdout, done.stderr), (status, written, said))
+        process = self.begun(command or self.command)
+        self.assertEqual((*process.communicate(timeout=60), process.returncode), (written, said, status))
 
     def test_what_was_said_decides(self):
         self.ends("echo out", 0, b"out\n", b"")
@@ -231,9 +247,11 @@ class RunProgram(Commands):
         self.ends("exit 7", 7, b"", b"")
 
     def test_a_closed_standard_error(self):
-        closed = ["sh", "-c", 'exec "$@" 2>&-', "sh", *self.command]
-        self.ends("echo out", 0, b"out\n", b"", closed)
-        self.ends("echo out; echo no >&2; true", 1, b"out\n", b"", closed)
+        for redirection in ("2>&-", "<&- 2>&-"):
+            closed = ["sh", "-c", f'exec "$@" {redirection}', "sh", *self.command]
+            with self.subTest(redirection=redirection):
+                self.ends("echo out", 0, b"out\n", b"", closed)
+                self.ends("echo out; echo no >&2; true", 1, b"out\n", b"", closed)
 
     def test_nothing_is_lost(self):
         much = b"".join(b"line %d\n" % number for number in range(1, 20_001))
@@ -242,8 +260,8 @@ class RunProgram(Commands):
     def test_it_is_said_while_the_program_goes_on(self):
         os.mkfifo(self.folder / "go")
         self.program(f"echo first; echo no >&2; read -r _ <'{self.folder}/go'; echo last")
-        process = subprocess.Popen(self.command, stdout=subprocess.PIPE, stderr=subprocess.PIPE)
-        self.assertEqual((process.stdout.readline(), process.stderr.readline()), (b"first\n", b"no\n"))
+        process = self.begun(self.command)
+        self.assertEqual((self.next_line(process.stdout), self.next_line(process.stderr)), (b"first\n", b"no\n"))
         (self.folder / "go").write_text("\n")
         self.assertEqual((*process.communicate(timeout=60), process.returncode), (b"last\n", b"", 1))
 
