@@ -168,7 +168,7 @@ enum seatport_phase {
 };
 
 /* What was heard has the number of the answer of seatport_receive that tells it, so that the answer can be handed on as it is; no other answer
- * is an event: seatport_step refuses it and changes nothing. */
+ * is an event: seatport_step refuses it with 40 and leaves the record as it was. */
 enum seatport_event {
 	SEATPORT_EVENT_VERIFY_HEARD = SEATPORT_ANSWER_VERIFY_HEARD,
 	SEATPORT_EVENT_RESPOND_HEARD = SEATPORT_ANSWER_RESPOND_HEARD,

@@ -326,7 +326,7 @@ static void damage(void)
 	}
 }
 
-/* The answer handed on as an event: a V or an R is heard by it, and any other answer is refused and changes nothing. */
+/* The answer handed on as an event: a V or an R is heard by it, and any other answer is refused and leaves the record as it was. */
 static void hand_on(uint32_t answer)
 {
 	const struct seatport_link trying = { SEATPORT_PHASE_TRYING, 1, 10, 0 };

@@ -1,4 +1,4 @@
--- Demand 3, its first sentence, of a sender's flow: what arrives is delivered as expected, in both lanes. Assumes nothing.
+-- Demand 3 but for its last sentence, of a sender's flow: what arrives is delivered as expected, in both lanes. Assumes nothing.
 use mathlib.Core.Path.{_≡_, refl, ap, ap₂, _∙_}
 use mathlib.Core.Bool.{Bool, true, false}
 use mathlib.Core.List.{List, [], _∷_, _++_}

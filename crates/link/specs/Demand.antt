@@ -2,7 +2,7 @@
 --
 -- The contracts that tie these definitions to functions: `freshOf` to sender_record's Record::fresh, `preemptableOf` to send's preemptable;
 -- `expressOf` to single's express, `orderOf` to its verify and respond; `headOf` to heads' head_of; `fresh` to receiver_record's Record::fresh,
--- `receivedOf` and `bufferOf` to receive's receive, `bodyOf` to express_body's. A sending call leaves `over` what it wrote in its buffer.
+-- `receivedOf` and `bufferOf` to receive's receive, `bodyOf` to express_body's express_body. A sending call leaves `over` what it wrote in its buffer.
 use mathlib.Core.Path.{_≡_}
 use mathlib.Core.Bool.{true}
 use mathlib.Core.List.{List, _∷_}
