@@ -5,6 +5,8 @@ INCLUDED := tests/c/c.mk
 # What reaches the shell by the environment may hold blanks, quotes and $: this file's name, and TRACE as it was given.
 export SEATPORT_MAKEFILE := $(MAKEFILE_LIST)
 export SEATPORT_TRACE := $(value TRACE)
+# make would hand it on as well, with every $(..) in it carried out.
+unexport TRACE
 
 # The project's folder, wherever make was called: for the shell, and for make, with a \ before each blank.
 project := "$$(dirname -- "$$SEATPORT_MAKEFILE")"
@@ -25,7 +27,7 @@ test: ## the gate: proves and tests everything, from nothing
 	@$(project)/scripts/gate
 
 prove: ## the edit loop: proves what changed, and runs the programs
-	@cd $(project) && rt check
+	@cd $(project) && scripts/need-kit && rt check
 
 vectors: ## makes the stored vectors and traces anew
 	@cd $(project) && for maker in tests/reference/vectors_*.py tests/reference/traces.py; do python3 "$$maker" || exit 1; done

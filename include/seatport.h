@@ -7,15 +7,19 @@
  * +----------------------------------------------------------------------------------------------------------------------+
  * | Fragments, V and R are understood only by ports built from this code. Their check octets, the mCRC, are those of     |
  * | document 01, and other makers' boxes use others (docs/DECISIONS.md, 1). Such a box drops our V and R and each frame  |
- * | that we cut; we answer theirs with 21, and with 25 and 22. The usual viewer calls our fragments corrupted. Express   |
- * | frames, and preemptable ones that nobody cuts, pass both ways. A link to such a box is never verified: a caller that |
- * | sets active only once the link is verified sends it no fragment.                                                     |
+ * | that we cut; we answer theirs with 21, 25 and 22. The usual viewer (Wireshark) calls the first fragment of a frame   |
+ * | corrupted and the mCRC of the others bad, and does not put the frame together. Express frames, and preemptable ones  |
+ * | that nobody cuts, pass both ways. A link to such a box is never verified: a caller that sets active only once the    |
+ * | link is verified sends it no fragment.                                                                               |
  * +----------------------------------------------------------------------------------------------------------------------+
  *
  * Link with libseatport.a. `rt staticlib seatport` makes it for x86-64, `make firmware` for a Cortex-M3 or another
- * processor. For the Cortex-M3 it calls __aeabi_memcpy and __aeabi_memclr4 of the C library and nothing else, and reads and
- * writes words at any address, which must not trap (docs/BOARD.md). Every function is proved to do what is said here and
- * never to touch other memory, provided that
+ * processor. Compiled for the Cortex-M3 with -Os it calls __aeabi_memcpy and __aeabi_memclr4 of the C library and nothing
+ * else (`make firmware` prints the names for other options), and reads and writes words at any address, which must not
+ * trap (docs/BOARD.md).
+ *
+ * Every function is proved, on the language's own machine, to do what is said here and never to touch other memory; what
+ * the compiler makes of it for a processor is tested. That holds provided that
  *   - no pointer is null, also where a length is 0, and each points to as much memory as the call says;
  *   - pieces of memory lent to one call do not overlap, unless the call only reads both.
  *
@@ -79,8 +83,8 @@ struct seatport_written {
  * port's. */
 struct seatport_sender {
 	uint32_t active;   /* preemption is on: link verified, or not asked for */
-	uint32_t hold;     /* no preemptable mFrame may begin */
-	uint32_t extra;    /* 0 to 3: a cut leaves at least 64 * (1 + extra) data octets before it */
+	uint32_t hold;     /* no preemptable mFrame may begin, of a frame in progress neither; only where active */
+	uint32_t extra;    /* 0 to 3: at least 64 * (1 + extra) data octets go before a cut, and 64 with the FCS behind it */
 	uint32_t next;     /* 0 to 3: frame count of the next preemptable frame */
 	uint32_t length;   /* of the frame in progress: its body's length, or 0 */
 	uint32_t sent;     /* its octets sent */
@@ -97,7 +101,8 @@ uint32_t seatport_express(const uint8_t *body, uint64_t length, uint8_t *output,
 /* The next mFrame of a preemptable frame. The body is handed in whole at each call until written->done. `ask` is the number
  * of this mFrame's data octets that are on the wire when an express frame waits or hold comes: the mFrame is then cut there
  * or at the first place behind it where a cut is lawful; SEATPORT_NO_ASK if there is no such wish. Where sender->active is
- * 0 a new frame goes whole as express and the ask is ignored. Returns 0 or 30 to 34. */
+ * 0 a new frame goes whole as express, one in progress runs to its end as a continuation, and ask and hold are ignored.
+ * Returns 0 or 30 to 34. */
 uint32_t seatport_preemptable(struct seatport_sender *sender, const uint8_t *body, uint64_t length, uint64_t ask,
 			      uint8_t *output, uint64_t room, struct seatport_written *written);
 
@@ -126,7 +131,7 @@ enum seatport_answer {
 	SEATPORT_ANSWER_ORDER_DAMAGED = 21,       /* dropped: V or R, mCRC wrong */
 	SEATPORT_ANSWER_NO_ASSEMBLY = 22,         /* dropped: continuation, none in assembly */
 	SEATPORT_ANSWER_COUNT_OTHER = 23,         /* dropped, assembly abandoned: frame or fragment count not the expected */
-	SEATPORT_ANSWER_OVERFLOW = 24,            /* dropped, assembly abandoned: octets kept plus this data over SEATPORT_SIZE_BODY_MAX */
+	SEATPORT_ANSWER_OVERFLOW = 24,            /* dropped, assembly abandoned: octets kept plus this data over 1,518 */
 	SEATPORT_ANSWER_DAMAGED = 25              /* dropped, assembly abandoned: last four octets neither FCS nor mCRC */
 };
 
@@ -167,15 +172,24 @@ enum seatport_phase {
 	SEATPORT_PHASE_FAILED = 3
 };
 
-/* What was heard has the number of the answer of seatport_receive that tells it, so that the answer can be handed on as it is; no other answer
- * is an event: seatport_step refuses it with 40 and leaves the record as it was. */
+/* What an event does. What was heard has the number of the answer of seatport_receive that tells it, so that the answer can
+ * be handed on as it is; no other answer is an event: seatport_step then returns 40, leaves the record as it was and sets
+ * *ordered to 0. */
 enum seatport_event {
+	/* in any phase: a response is owed */
 	SEATPORT_EVENT_VERIFY_HEARD = SEATPORT_ANSWER_VERIFY_HEARD,
+	/* trying becomes verified; in any other phase nothing */
 	SEATPORT_EVENT_RESPOND_HEARD = SEATPORT_ANSWER_RESPOND_HEARD,
+	/* nothing is owed any more */
 	SEATPORT_EVENT_RESPONSE_SENT = 5,
+	/* tell every millisecond. In trying one less is left; at none, attempts 1 and 2 order a V and the next begins with 10,
+	 * attempt 3 becomes failed. In any other phase nothing */
 	SEATPORT_EVENT_MILLISECOND = 6,
+	/* off becomes trying, and a V is ordered; in any other phase nothing: to try again, disable first */
 	SEATPORT_EVENT_ENABLE = 7,
+	/* off */
 	SEATPORT_EVENT_DISABLE = 8,
+	/* off, and nothing is owed */
 	SEATPORT_EVENT_LINK_FAILED = 9
 };
 
@@ -192,7 +206,8 @@ struct seatport_link {
 	uint32_t owed;    /* a response is owed: send an R, then tell SEATPORT_EVENT_RESPONSE_SENT */
 };
 
-/* One event. *ordered becomes 1 if a V is to be sent now, else 0. Returns 0 or 40. */
+/* One event. *ordered becomes 1 if a V is to be sent now, else 0: look at it after each call, the next one sets it anew.
+ * Returns 0 or 40. */
 uint32_t seatport_step(struct seatport_link *link, uint32_t event, uint32_t *ordered);
 
 /* ---- House trace ---------------------------------------------------------------------------------------------------- */

@@ -28,6 +28,7 @@ PROVED = "echo 'rt: mmlist proved (3 s)'"
 
 # Names that a shell or make would take apart, or take for something else.
 NAMES = ("plain.trace", "it's.trace", 'a "b".trace', "two  words.trace", "$HOME.trace", "$(x) `y`.trace", "a#b.trace",
+         "$(shell touch carried_out)", "a$(b", "$(error no)", "${HOME}", "$$.trace",
          "a;b&c|d.trace", "a*b?.trace", "back\\slash.trace", "-x.trace", "--.trace", "é.trace")
 
 
@@ -93,6 +94,7 @@ class Names(Commands):
             for command in ([LIST, name], make("list", f"TRACE={name}")):
                 with self.subTest(command=command):
                     self.lists(command)
+        self.assertFalse((self.folder / "carried_out").exists())
 
     def test_a_name_from_the_environment(self):
         (self.folder / "$HOME's.trace").write_bytes(sample()[0])
@@ -271,7 +273,7 @@ class RunProgram(Commands):
 
     def test_no_program(self):
         self.refuses([*self.command, "more"],
-                     "run-program: the name of a program is missing, as in: scripts/run-program mmlist <row.trace")
+                     "run-program: one word is needed, the name of a program, as in: scripts/run-program mmlist <row.trace")
         self.refuses(self.command, "run-program: there is no target/bin/talks; rt check talks proves and builds it.")
 
 
