@@ -37,14 +37,6 @@ detail-small (n15 bits h) = h
 detail-small n16 = omega arith
 detail-small n17 = omega arith
 
-pub no-delivery : {number detail : ℕ} → Refusal number detail → eqb number 0 ≡ false
-no-delivery n12 = refl
-no-delivery n13 = refl
-no-delivery n14 = refl
-no-delivery (n15 bits h) = refl
-no-delivery n16 = refl
-no-delivery n17 = refl
-
 -- n octets with a known head: where the data begin there is room for the least data and check octets, and no more than the most
 pub record Roomy (n : ℕ) (kind : Kind) (place : ℕ) : Type 0 where
   pub early : place ≤ 8
