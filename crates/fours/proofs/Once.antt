@@ -3,7 +3,11 @@
 use mathlib.Core.Path.{_≡_, sym, _∙_}
 use mathlib.Core.List.{List}
 use Prim.Native.Nat.{ℕ}
-use Rattle.fours.specs.Word.{wordAt, octetsOf}
+use Rattle.fours.specs.Word.{wordOf, wordAt, octetsOf}
+
+-- joined
+pub joined-once : (a b c d : ℕ) {x y : ℕ} → x ≡ wordOf a b c d → y ≡ wordOf a b c d → x ≡ y
+joined-once a b c d p q = p ∙ sym q
 
 -- load
 pub load-once : (octets : List ℕ) (i : ℕ) {x y : ℕ} → x ≡ wordAt octets i → y ≡ wordAt octets i → x ≡ y

@@ -1,11 +1,12 @@
 // Four octets as one number, the first lowest, and back.
 ghost use mathlib.Core.Path.{_≡_};
-ghost use Prim.Native.Nat.{_+_, _*_, _≤_};
+ghost use Prim.Native.Nat.{_+_, _≤_};
 ghost use lib.ListN.{length};
-ghost use Rattle.fours.specs.Word.{wordAt, octetsOf};
+ghost use Rattle.fours.specs.Word.{wordOf, wordAt, octetsOf};
 
-fn joined(a: u8, b: u8, c: u8, d: u8) -> u32
-    ensures { λ r. ⌜ r ≡ a + b * 256 + c * 65536 + d * 16777216 ⌝ }
+// Four octets as one number, the first lowest.
+pub fn joined(a: u8, b: u8, c: u8, d: u8) -> u32
+    ensures { λ r. ⌜ r ≡ wordOf a b c d ⌝ }
 {
     a as u32 + b as u32 * 256 + c as u32 * 65536 + d as u32 * 16777216
 }
