@@ -1,0 +1,4 @@
+pub mod Contents
+pub mod Good
+pub mod Laws
+pub mod Once
