@@ -1,0 +1,4 @@
+pub mod Calls
+pub mod Enough
+pub mod Roundtrip
+pub mod Times
