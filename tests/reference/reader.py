@@ -2,13 +2,12 @@
 
 import struct
 
-# No run of octets in a question is longer, so that a reader can do with fixed memory.
+# No run of octets in a question is longer where its layout does not say so, so that a reader can do with fixed memory.
 LONGEST_RUN = 2048
 
 SINGLE_OCTET = struct.Struct("<B")
 
-# 0, 1 .. 255 and again from 0, long enough for the longest run that begins with any octet.
-EVERY_OCTET_IN_TURN = bytes(range(256)) * (LONGEST_RUN // 256 + 1)
+EVERY_OCTET = bytes(range(256))
 
 
 class Reader:
@@ -21,9 +20,9 @@ class Reader:
     def at_end(self):
         return self.place == len(self.octets)
 
-    def run(self, length):
+    def run(self, length, most=LONGEST_RUN):
         """The next so many octets."""
-        if length > LONGEST_RUN:
+        if length > most:
             raise ValueError(f"a run of {length} octets is longer than the format allows")
         part = self.octets[self.place:self.place + length]
         if len(part) < length:
@@ -46,11 +45,12 @@ def as_flag(octet):
     return octet == 1
 
 
-def lent_memory(room, fill):
-    """Lent memory before a call: its first octet is `fill`, and each is one more than the one before."""
-    if room > LONGEST_RUN:
+def lent_memory(room, fill, most=LONGEST_RUN):
+    """Lent memory before a call: its first octet is `fill`, and each is one more than the one before, modulo 256."""
+    if room > most:
         raise ValueError(f"memory of {room} octets is longer than the format allows")
-    return bytearray(EVERY_OCTET_IN_TURN[fill:fill + room])
+    every_octet_in_turn = EVERY_OCTET * (room // 256 + 2)
+    return bytearray(every_octet_in_turn[fill:fill + room])
 
 
 def answered(questions, answer_one):

@@ -24,6 +24,11 @@ class Reading(unittest.TestCase):
         with self.assertRaises(ValueError):
             Reader(bytes(2049)).run(2049)
 
+    def test_a_longer_run_where_the_layout_says_so(self):
+        self.assertEqual(len(Reader(bytes(3601)).run(3600, 3600)), 3600)
+        with self.assertRaises(ValueError):
+            Reader(bytes(3601)).run(3601, 3600)
+
     def test_flags(self):
         self.assertIs(as_flag(0), False)
         self.assertIs(as_flag(1), True)
@@ -39,6 +44,11 @@ class Memory(unittest.TestCase):
         self.assertEqual(len(lent_memory(2048, 0)), 2048)
         with self.assertRaises(ValueError):
             lent_memory(2049, 0)
+
+    def test_more_where_the_layout_says_so(self):
+        self.assertEqual(lent_memory(4800, 200, 4800), bytes((200 + place) % 256 for place in range(4800)))
+        with self.assertRaises(ValueError):
+            lent_memory(4801, 0, 4800)
 
 
 if __name__ == "__main__":
