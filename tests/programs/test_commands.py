@@ -1,6 +1,6 @@
-"""The commands around the programs: scripts/list, scripts/run-program and make, wherever called and whatever a trace is named.
+"""The commands around the programs: scripts/list, scripts/holds, scripts/run-program and make, wherever called and whatever a file is named.
 
-mmlist must be built and unchanged (rt check mmlist). Where rt itself matters, a stand-in is on the path before it.
+mmlist and mmholds must be built and unchanged (rt check mmlist mmholds). Where rt itself matters, a stand-in is on the path before it.
 """
 
 import os
@@ -17,24 +17,15 @@ import unittest
 from pathlib import Path
 
 ROOT = Path(__file__).resolve().parents[2]
-LIST = str(ROOT / "scripts" / "list")
-TRACES = ROOT / "tests" / "traces"
-PROVING = b"Proving and building mmlist; what was proved before is not proved again.\n"
 ON_X86_64 = unittest.skipUnless(platform.machine() == "x86_64", "elsewhere an emulator that stands beside rt runs programs")
 
-# Lines of rt.
+# A line of rt.
 UNCHANGED = "echo 'rt: trace proved (unchanged since it was last proved)'"
-PROVED = "echo 'rt: mmlist proved (3 s)'"
 
 # Names that a shell or make would take apart, or take for something else.
-NAMES = ("plain.trace", "it's.trace", 'a "b".trace', "two  words.trace", "$HOME.trace", "$(x) `y`.trace", "a#b.trace",
-         "$(shell touch carried_out)", "a$(b", "$(error no)", "${HOME}", "$$.trace",
-         "a;b&c|d.trace", "a*b?.trace", "back\\slash.trace", "-x.trace", "--.trace", "é.trace")
-
-
-def sample():
-    folder = ROOT / "crates" / "mmlist"
-    return (folder / "stdin").read_bytes(), (folder / "stdout").read_bytes()
+NAMES = ("plain.file", "it's.file", 'a "b".file', "two  words.file", "$HOME.file", "$(x) `y`.file", "a#b.file",
+         "$(shell touch carried_out)", "a$(b", "$(error no)", "${HOME}", "$$.file",
+         "a;b&c|d.file", "a*b?.file", "back\\slash.file", "-x.file", "--.file", "é.file")
 
 
 def make(*words):
@@ -70,11 +61,6 @@ class Commands(unittest.TestCase):
         self.assertTrue(select.select([stream], [], [], 60)[0], "no line came within a minute")
         return stream.readline()
 
-    def lists(self, command, **how):
-        """The command lists the sample and says nothing."""
-        done = self.run_in_folder(command, **how)
-        self.assertEqual((done.returncode, done.stdout, done.stderr), (0, sample()[1], b""))
-
     def refuses(self, command, sentence, status=1, **how):
         """The command lists nothing and says this sentence; make adds a line of its own."""
         done = self.run_in_folder(command, **how)
@@ -82,38 +68,92 @@ class Commands(unittest.TestCase):
                          (status, b"", [sentence.encode()]))
 
 
-class Names(Commands):
+class Given(Commands):
+    """A command that gives a file to a program: the word of make and of the script, make's variable, and the program."""
+
+    word = variable = program = ""
+
+    def script(self, *names):
+        return [str(ROOT / "scripts" / self.word), *names]
+
+    def make(self, *names):
+        return make(self.word, *(f"{self.variable}={name}" for name in names))
+
+    def both(self, *names):
+        return self.script(*names), self.make(*names)
+
+    def sample(self):
+        """The file that ships with the project, and what the program writes of it."""
+        folder = ROOT / "crates" / self.program
+        return (folder / "stdin").read_bytes(), (folder / "stdout").read_bytes()
+
+    def lists(self, command, **how):
+        """The command lists the sample and says nothing."""
+        done = self.run_in_folder(command, **how)
+        self.assertEqual((done.returncode, done.stdout, done.stderr), (0, self.sample()[1], b""))
+
+
+class List(Given):
+    word, variable, program = "list", "TRACE", "mmlist"
+    unread = "The trace {} cannot be read."
+    empty = "The name of the trace is empty."
+    two = "One trace is listed at a time, as in: scripts/list row.trace"
+    unwritten = "mmlist: the listing could not be written."
+    # A file that is refused, what is written of it all the same, and what is said.
+    refused = ("tests/traces/refused_53.trace", (ROOT / "tests/traces/refused_53.listing").read_bytes(),
+               b"mmlist: record 7 is cut off: the trace ends inside it (53).\n")
+
+
+class Holds(Given):
+    word, variable, program = "holds", "LIST", "mmholds"
+    unread = "The list {} cannot be read."
+    empty = "The name of the list is empty."
+    two = "One list is read at a time, as in: scripts/holds hall.gates"
+    unwritten = "mmholds: the events could not be written."
+    refused = ("tests/schedules/length_4.gates", b"", b"mmholds: entry 5 has a length other than 5 (62).\n")
+
+
+class Names:
     def test_none_is_the_sample(self):
-        for command in ([LIST], [LIST, ""], make("list"), make("list", "TRACE=")):
+        for command in self.both():
             with self.subTest(command=command):
                 self.lists(command)
 
+    def test_an_empty_name(self):
+        self.refuses(self.script(""), self.empty)
+        self.refuses(self.make(""), self.empty, status=2)
+
+    def test_a_name_that_make_takes_for_a_goal(self):
+        done = self.run_in_folder([*self.make(), "a.file"])
+        self.assertEqual((done.returncode, done.stdout), (2, b""))
+        self.assertIn(b"A file is named so: make list TRACE=row.trace, make holds LIST=hall.gates", done.stderr)
+
     def test_each_name_in_the_callers_folder(self):
         for name in NAMES:
-            (self.folder / name).write_bytes(sample()[0])
-            for command in ([LIST, name], make("list", f"TRACE={name}")):
+            (self.folder / name).write_bytes(self.sample()[0])
+            for command in self.both(name):
                 with self.subTest(command=command):
                     self.lists(command)
         self.assertFalse((self.folder / "carried_out").exists())
 
     def test_a_name_from_the_environment(self):
-        (self.folder / "$HOME's.trace").write_bytes(sample()[0])
-        self.lists(make("list"), env={**os.environ, "TRACE": "$HOME's.trace"})
+        (self.folder / "$HOME's.file").write_bytes(self.sample()[0])
+        self.lists(self.make(), env={**os.environ, self.variable: "$HOME's.file"})
 
     def test_a_name_with_folders(self):
         (self.folder / "sub").mkdir()
-        (self.folder / "a.trace").write_bytes(sample()[0])
-        for name in ("sub/../a.trace", "./a.trace", str(self.folder / "a.trace")):
+        (self.folder / "a.file").write_bytes(self.sample()[0])
+        for name in ("sub/../a.file", "./a.file", str(self.folder / "a.file")):
             with self.subTest(name=name):
-                self.lists([LIST, name])
+                self.lists(self.script(name))
 
     def test_make_in_another_folder_takes_a_name_there(self):
-        name = os.path.relpath(ROOT / "crates" / "mmlist" / "stdin", ROOT)
-        self.lists(["make", "--no-print-directory", "-C", str(ROOT), "list", f"TRACE={name}"])
+        name = f"crates/{self.program}/stdin"
+        self.lists(["make", "--no-print-directory", "-C", str(ROOT), self.word, f"{self.variable}={name}"])
 
     def test_a_link_to_the_script(self):
-        (self.folder / "list").symlink_to(LIST)
-        self.lists([str(self.folder / "list")])
+        (self.folder / "link").symlink_to(self.script()[0])
+        self.lists([str(self.folder / "link")])
 
     def test_missing_a_folder_or_not_to_be_opened(self):
         (self.folder / "folder").mkdir()
@@ -122,51 +162,59 @@ class Names(Commands):
         listening.bind(str(self.folder / "socket"))
         for name in ("missing", "folder", "socket", "it's missing", "-missing", "%s"):
             with self.subTest(name=name):
-                self.refuses([LIST, name], f"The trace {name} cannot be read.")
-                self.refuses(make("list", f"TRACE={name}"), f"The trace {name} cannot be read.", status=2)
+                self.refuses(self.script(name), self.unread.format(name))
+                self.refuses(self.make(name), self.unread.format(name), status=2)
 
-    def test_two_traces(self):
-        self.refuses([LIST, "a", "b"], "One trace is listed at a time, as in: scripts/list row.trace")
+    def test_two_files(self):
+        self.refuses(self.script("a", "b"), self.two)
 
 
-class Streams(Commands):
+class NamesOfTraces(Names, List):
+    pass
+
+
+class NamesOfLists(Names, Holds):
+    pass
+
+
+class Streams:
     def test_a_named_pipe(self):
         pipe = self.folder / "pipe"
         os.mkfifo(pipe)
-        for command in ([LIST, "pipe"], make("list", "TRACE=pipe")):
+        for command in self.both("pipe"):
             with self.subTest(command=command):
                 # A daemon, as it would wait for ever for a command that does not open the pipe.
-                feeder = threading.Thread(target=pipe.write_bytes, args=[sample()[0]], daemon=True)
+                feeder = threading.Thread(target=pipe.write_bytes, args=[self.sample()[0]], daemon=True)
                 feeder.start()
                 self.lists(command)
                 feeder.join()
 
     def test_standard_input(self):
-        octets, _ = sample()
-        (self.folder / "a.trace").write_bytes(octets)
-        for command in ([LIST, "-"], [LIST, "/dev/stdin"], make("list", "TRACE=/dev/stdin"), make("list", "TRACE=-")):
+        octets, _ = self.sample()
+        (self.folder / "a.file").write_bytes(octets)
+        for command in (*self.both("-"), *self.both("/dev/stdin")):
             with self.subTest(command=command):
                 self.lists(command, input=octets)
-                with open(self.folder / "a.trace", "rb") as file:
+                with open(self.folder / "a.file", "rb") as file:
                     self.lists(command, stdin=file)
 
     def test_a_socket_as_standard_input(self):
         reader, writer = socket.socketpair()
         with reader:
             with writer:
-                writer.sendall(sample()[0])
-            self.lists([LIST, "/dev/stdin"], stdin=reader)
+                writer.sendall(self.sample()[0])
+            self.lists(self.script("/dev/stdin"), stdin=reader)
 
     def test_a_closed_standard_input(self):
-        self.refuses(["sh", "-c", f"exec '{LIST}' - <&-"], "The trace - cannot be read.")
+        self.refuses(["sh", "-c", 'exec "$@" <&-', "sh", *self.script("-")], self.unread.format("-"))
 
     def test_an_output_that_cannot_be_written(self):
         for redirection in (">/dev/full", ">&-"):
             with self.subTest(redirection=redirection):
-                self.refuses(["sh", "-c", f"exec '{LIST}' {redirection}"], "mmlist: the listing could not be written.")
+                self.refuses(["sh", "-c", f'exec "$@" {redirection}', "sh", *self.script()], self.unwritten)
 
     def test_a_reader_that_goes_away(self):
-        for command in ([LIST], make("list")):
+        for command in self.both():
             reader, writer = os.pipe()
             os.close(reader)
             with self.subTest(command=command), open(writer, "wb") as output:
@@ -174,51 +222,80 @@ class Streams(Commands):
                                       stderr=subprocess.PIPE, timeout=600, check=False)
                 self.assertEqual((done.returncode, done.stderr), (0, b""))
 
-    def test_a_cut_trace(self):
-        done = self.run_in_folder([LIST, str(TRACES / "refused_53.trace")])
-        self.assertEqual((done.returncode, done.stdout, done.stderr),
-                         (1, (TRACES / "refused_53.listing").read_bytes(),
-                          b"mmlist: record 7 is cut off: the trace ends inside it (53).\n"))
+    def test_a_refused_file(self):
+        name, written, said = self.refused
+        for command, status, of_make in zip(self.both(str(ROOT / name)), (1, 2), (0, 1)):
+            done = self.run_in_folder(command)
+            lines = done.stderr.splitlines(keepends=True)
+            self.assertEqual((done.returncode, done.stdout, lines[:1], len(lines)), (status, written, [said], 1 + of_make))
 
 
-@ON_X86_64
-class Proving(Commands):
-    """What scripts/list says of rt, which a stand-in plays."""
+class StreamsOfTraces(Streams, List):
+    pass
+
+
+class StreamsOfLists(Streams, Holds):
+    pass
+
+
+class Proving:
+    """What a script says of rt, which a stand-in plays."""
+
+    def setUp(self):
+        super().setUp()
+        self.proving = f"Proving and building {self.program}; what was proved before is not proved again.\n".encode()
+        self.proved = f"rt: {self.program} proved (3 s)\n".encode()
+        self.tell_proved = f"echo 'rt: {self.program} proved (3 s)'"
 
     def listing_with(self, script):
-        """scripts/list, begun, with this as rt."""
+        """The script, begun, with this as rt."""
         stand_in = self.folder / "rt"
         stand_in.write_text(f"#!/bin/sh\n{script}\n")
         stand_in.chmod(0o755)
-        return self.begun([LIST], env={**os.environ, "PATH": f"{self.folder}:{os.environ['PATH']}"})
+        return self.begun(self.script(), env={**os.environ, "PATH": f"{self.folder}:{os.environ['PATH']}"})
 
     def ends(self, process, status, listing, said):
         self.assertEqual((*process.communicate(timeout=60), process.returncode), (listing, said, status))
 
     def test_nothing_to_prove_is_not_said(self):
-        self.ends(self.listing_with(f"{UNCHANGED}; echo 'rt: ok, 1 crates proved'"), 0, sample()[1], b"")
+        self.ends(self.listing_with(f"{UNCHANGED}; echo 'rt: ok, 1 crates proved'"), 0, self.sample()[1], b"")
+
+    def test_it_is_the_program_that_is_proved(self):
+        # The stand-in finds a crate by its name where it is called, as rt would.
+        self.ends(self.listing_with(f'[ "$*" = "check {self.program}" ] && [ -d "crates/$2" ]'), 0, self.sample()[1], b"")
 
     def test_what_is_proved_is_said(self):
-        self.ends(self.listing_with(f"{UNCHANGED}; echo logic=proved; {PROVED}; echo 'rt: ok, 2 crates proved'"),
-                  0, sample()[1], PROVING + b"rt: mmlist proved (3 s)\n")
+        self.ends(self.listing_with(f"{UNCHANGED}; echo logic=proved; {self.tell_proved}; echo 'rt: ok, 2 crates proved'"),
+                  0, self.sample()[1], self.proving + self.proved)
 
     def test_it_is_said_while_a_crate_is_proved(self):
         # The stand-in does not go on before the sentence was read.
         os.mkfifo(self.folder / "go")
-        process = self.listing_with(f"{UNCHANGED}; read -r _ <'{self.folder}/go'; {PROVED}")
-        self.assertEqual(self.next_line(process.stderr), PROVING)
+        process = self.listing_with(f"{UNCHANGED}; read -r _ <'{self.folder}/go'; {self.tell_proved}")
+        self.assertEqual(self.next_line(process.stderr), self.proving)
         (self.folder / "go").write_text("\n")
-        self.ends(process, 0, sample()[1], b"rt: mmlist proved (3 s)\n")
+        self.ends(process, 0, self.sample()[1], self.proved)
 
     def test_a_proof_that_fails(self):
-        failed = b"rt: mmlist NOT PROVED (exit 1, 3 s)\n"
+        failed = f"rt: {self.program} NOT PROVED (exit 1, 3 s)\n".encode()
+        unbuilt = f"{self.program} could not be proved, so it was not built.\n".encode()
         self.ends(self.listing_with(f"echo 'error: no'; printf '{failed.decode()}'; exit 1"),
-                  1, b"", PROVING + failed + b"error: no\n" + failed + b"mmlist could not be proved, so it was not built.\n")
+                  1, b"", self.proving + failed + b"error: no\n" + failed + unbuilt)
 
     def test_no_rt(self):
         for tool in ("bash", "dirname", "readlink"):
             (self.folder / tool).symlink_to(shutil.which(tool))
-        self.refuses([LIST], "The Rattle kit is missing: there is no rt on the path.", env={"PATH": str(self.folder)})
+        self.refuses(self.script(), "The Rattle kit is missing: there is no rt on the path.", env={"PATH": str(self.folder)})
+
+
+@ON_X86_64
+class ProvingMmlist(Proving, List):
+    pass
+
+
+@ON_X86_64
+class ProvingMmholds(Proving, Holds):
+    pass
 
 
 @ON_X86_64
@@ -271,9 +348,17 @@ class RunProgram(Commands):
         self.program("kill -s PIPE $$")
         self.assertEqual(self.run_in_folder(self.command).returncode, -signal.SIGPIPE)
 
+    def test_words_behind_the_name_go_to_the_program(self):
+        for words in ((), ("hall.gates",), ("two  words", "", "-x", "$HOME", "*", "it's"), ("--",)):
+            with self.subTest(words=words):
+                expected = "".join(f"<{word}>" for word in words).encode()
+                self.ends('for word; do printf "<%s>" "$word"; done', 0, expected, b"", [*self.command, *words])
+
     def test_no_program(self):
-        self.refuses([*self.command, "more"],
-                     "run-program: one word is needed, the name of a program, as in: scripts/run-program mmlist <row.trace")
+        nameless = "run-program: the name of a program is needed, as in: scripts/run-program mmholds hall.gates"
+        self.refuses(self.command[:1], nameless)
+        self.refuses([self.command[0], "", "hall.gates"], nameless)
+        self.refuses([*self.command, "hall.gates"], "run-program: there is no target/bin/talks; rt check talks proves and builds it.")
         self.refuses(self.command, "run-program: there is no target/bin/talks; rt check talks proves and builds it.")
 
 
@@ -281,7 +366,7 @@ class Help(Commands):
     def test_every_target_has_a_line(self):
         text = "".join((ROOT / name).read_text() for name in ("Makefile", "tests/c/c.mk"))
         targets = " ".join(re.findall(r"^\.PHONY: (.*)$", text, re.MULTILINE)).split()
-        self.assertLessEqual({"help", "list", "test", "c-test", "board", "bench"}, set(targets))
+        self.assertLessEqual({"help", "list", "holds", "test", "c-test", "board", "bench"}, set(targets))
         for command in (make("help"), make()):
             done = self.run_in_folder(command)
             self.assertEqual((done.returncode, done.stderr), (0, b""))

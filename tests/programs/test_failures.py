@@ -7,20 +7,21 @@ test_commands.py has the commands around them.
 import os
 import pty
 import signal
-import socket
 import subprocess
-import threading
 import unittest
 from pathlib import Path
+
+from inputs import failing_behind
 
 ROOT = Path(__file__).resolve().parents[2]
 RUN = str(ROOT / "scripts" / "run-program")
 TRACES = ROOT / "tests" / "traces"
-QUESTIONS = ("test_ground", "test_send", "test_receive", "test_verify", "test_link")
-READING = ("mmlist", *QUESTIONS)
+QUESTIONS = ("test_ground", "test_send", "test_receive", "test_verify", "test_link", "test_gates")
+READING = ("mmlist", "mmholds", *QUESTIONS)
 WRITING = (*READING, "test_waits")
 
-# Of each program that runs questions: some that are cut off, unknown, or ask for more octets than any has, 2,049.
+# Of each program that runs questions: some that are cut off, unknown, or ask for more than any has: 2,049 octets, or
+# 301 entries or events.
 BROKEN = {
     "test_ground": ("00", "07", "ff", "01", "02", "03", "04" + "00" * 25, "05 00000000 0100", "06 0100 0100 0000 00",
                        "01 00000000 0108" + "00" * 2049, "06 0108 0000 0000" + "00" * 2049),
@@ -29,34 +30,56 @@ BROKEN = {
     "test_receive": ("00", "04", "ff", "01" + "00" * 30, "02 0000", "03 0100", "02 0108 00", "03 0108" + "00" * 2049),
     "test_verify": ("00", "03", "ff", "01 000000", "02", "01 04000000", "02 02", "02 0a"),
     "test_link": ("00", "00" * 7),
+    "test_gates": ("00", "04", "ff", "01 0000 0000", "01 0100 0000 00", "02 0100 0000 00" + "00" * 11, "03 0000",
+                      "01 0000 2d01 00", "02 0000 0108 00", "03 0000 2d01 00", "01 0108 0000 00" + "00" * 2049,
+                      "02 2d01 0000 00" + "00" * 3612, "03 0108 0000 00" + "00" * 2049),
 }
 
 
-def said(name, of_mmlist, of_others):
-    return f"{name}: {of_mmlist if name == 'mmlist' else of_others}\n".encode("ascii")
+# What a program says behind its name where a stream fails: those for the hall, and those that run questions.
+SENTENCES = {
+    "mmlist": {
+        "terminal": "a trace is read on standard input, as in: mmlist <row.trace",
+        "unread": "the trace could not be read.",
+        "unwritten": "the listing could not be written.",
+    },
+    "mmholds": {
+        "terminal": "a list is read from a file or from standard input, as in: mmholds hall.gates",
+        "unread": "the list could not be read.",
+        "unwritten": "the events could not be written.",
+    },
+}
+OF_QUESTIONS = {
+    "terminal": "the stored questions are read on standard input, as in: scripts/run-program {name} <crates/{name}/stdin",
+    "unread": "the questions could not be read.",
+    "unwritten": "the output could not be written.",
+    "broken": "a question is cut off, or is none that tests/reference/README.md describes.",
+}
+
+
+def said(name, case):
+    return f"{name}: {SENTENCES.get(name, OF_QUESTIONS)[case].format(name=name)}\n".encode("ascii")
 
 
 def at_a_terminal(name):
-    return said(name, "a trace is read on standard input, as in: mmlist <row.trace",
-                "the stored questions are read on standard input, as in: "
-                f"scripts/run-program {name} <crates/{name}/stdin")
+    return said(name, "terminal")
 
 
 def unread(name):
-    return said(name, "the trace could not be read.", "the questions could not be read.")
-
-
-def nothing_listed(name):
-    """What a program writes where no octet could be read: the listing has its first and its last line all the same."""
-    return b"mm 1\nend 0 0 0 0\n" if name == "mmlist" else b""
-
-
-def broken(name):
-    return said(name, None, "a question is cut off, or is none that tests/reference/README.md describes.")
+    return said(name, "unread")
 
 
 def unwritten(name):
-    return said(name, "the listing could not be written.", "the output could not be written.")
+    return said(name, "unwritten")
+
+
+def broken(name):
+    return said(name, "broken")
+
+
+def nothing_listed(name):
+    """What a program writes where no octet could be read: a listing has its first and its last line all the same."""
+    return b"mm 1\nend 0 0 0 0\n" if name == "mmlist" else b""
 
 
 def stored(name):
@@ -70,22 +93,6 @@ def run(name, redirection="", **streams):
     """Runs a program, its streams redirected by the shell where Python cannot, as by `>&-`."""
     streams = {"stdout": subprocess.PIPE, "stderr": subprocess.PIPE, "timeout": 60, **streams}
     return subprocess.run(["sh", "-c", f'exec "$@" {redirection}', "sh", RUN, name], check=False, **streams)
-
-
-def failing_behind(octets):
-    """A socket whose reader gets these octets, and then no end but an error.
-
-    The other side goes away with an octet unread, which the system tells as a connection reset.
-    """
-    reader, writer = socket.socketpair()
-    reader.send(b"x")
-
-    def feed():
-        with writer:
-            writer.sendall(octets)
-
-    threading.Thread(target=feed, daemon=True).start()
-    return reader
 
 
 class Failures(unittest.TestCase):
@@ -149,6 +156,11 @@ class Traces(Failures):
         octets, listing = self.stored("refused_53")
         done = run("mmlist", input=octets, stderr=subprocess.STDOUT)
         self.assertEqual(done.stdout, listing + self.REFUSED[53])
+
+    def test_a_trace_that_is_named(self):
+        # Whoever names a file would take a listing of standard input for that file's.
+        octets, _ = self.stored("answers")
+        self.each(["mmlist"], at_a_terminal, redirection="row.trace", input=octets)
 
     def test_a_read_that_fails_between_records(self):
         for name in ("answers", "empty"):

@@ -261,9 +261,14 @@ fn list_all() {
     }
 }
 
-// The listing of standard input, on standard output. A terminal has no trace to give: whoever sits at it is told how to give one.
+// Whether no trace is given on standard input: a terminal has none, and whoever names a file means to give that one.
+fn none_given() -> bool {
+    os::arg_count() > 1 || libc::isatty(STDIN_FILENO) == 1
+}
+
+// The listing of standard input, on standard output. Who gives no trace there is told how to give one.
 pub fn run() {
-    if libc::isatty(STDIN_FILENO) == 1 {
+    if none_given() {
         io::write_all(
             STDERR_FILENO,
             b"mmlist: a trace is read on standard input, as in: mmlist <row.trace\n",
