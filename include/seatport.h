@@ -1,8 +1,9 @@
 /* seatport.h: IEEE 802.3br frame preemption in software, for a port that has none in its hardware.
  *
- * Each function is one call of document 01, "The seat port and its rules". It works on memory that the caller lends for
- * the length of the call and keeps nothing: no allocation, no statics, no working memory but some stack. Several ports, or
- * calls from several threads, need nothing but records and buffers of their own.
+ * Each function is one call of document 01, "The seat port and its rules", or, on the hall's schedule, of document 02, (i).
+ * It works on memory that the caller lends for the length of the call and keeps nothing: no allocation, no statics, no
+ * working memory but some stack. Several ports, or calls from several threads, need nothing but records and buffers of
+ * their own.
  *
  * +----------------------------------------------------------------------------------------------------------------------+
  * | Fragments, V and R are understood only by ports built from this code. Their check octets, the mCRC, are those of     |
@@ -27,7 +28,8 @@
  * are refused by number and change neither record nor buffer; what the call hands back beside its number (*written,
  * *detail, *ordered) is then 0. A record that is all zero is fresh: write
  *     struct seatport_sender s = SEATPORT_SENDER_FRESH;
- * and set active, hold and extra as you need them.
+ * and set active, hold and extra as you need them. The calls on the hall's schedule have no record; what they hand back
+ * beside a refusal's number is said there, and the fields of their events are uint64_t.
  */
 #ifndef SEATPORT_H
 #define SEATPORT_H
@@ -38,7 +40,7 @@
  * a field, a function or what it does. The second goes up where something was added. An archive does not say which header
  * it was made with: keep the two together. */
 #define SEATPORT_VERSION_MAJOR 1
-#define SEATPORT_VERSION_MINOR 0
+#define SEATPORT_VERSION_MINOR 1 /* 1.1: the hall's schedule */
 
 /* Fresh records, in C and in C++. */
 #define SEATPORT_SENDER_FRESH { 0, 0, 0, 0, 0, 0, 0 }
@@ -83,7 +85,8 @@ struct seatport_written {
  * port's. */
 struct seatport_sender {
 	uint32_t active;   /* preemption is on: link verified, or not asked for */
-	uint32_t hold;     /* no preemptable mFrame may begin, of a frame in progress neither; only where active */
+	uint32_t hold;     /* no preemptable mFrame may begin, of a frame in progress neither; only where active. Set it
+			    * between calls: seatport_preemptable writes the record back */
 	uint32_t extra;    /* 0 to 3: at least 64 * (1 + extra) data octets go before a cut, and 64 with the FCS behind it */
 	uint32_t next;     /* 0 to 3: frame count of the next preemptable frame */
 	uint32_t length;   /* of the frame in progress: its body's length, or 0 */
@@ -236,13 +239,102 @@ struct seatport_content {
  */
 uint32_t seatport_trace(const uint8_t *trace, uint64_t length, struct seatport_content *content);
 
-/* The structs are words and nothing else. */
+/* ---- The hall's schedule -------------------------------------------------------------------------------------------- */
+
+/* The gate control list of the hall switch, octet for octet as the switch keeps it (ieee8021STAdminControlList): a row of
+ * entries, seven octets each.
+ *
+ *     octet 0         the operation: 0 set the gates, 1 set the gates and hold, 2 set the gates and release
+ *     octet 1         the length of what follows: 5
+ *     octet 2         the gates, the highest bit for traffic class 7; 1 is open
+ *     octets 3 to 6   the interval from this entry to the next, in nanoseconds, high octet first
+ *
+ * A list of no octets is good, too: it has no entries. */
+enum seatport_operation {
+	SEATPORT_OPERATION_SET = 0,
+	SEATPORT_OPERATION_HOLD = 1,
+	SEATPORT_OPERATION_RELEASE = 2
+};
+
+/* The most that is written: an output with room for as much is always enough. A list to be read is lent whole, or at
+ * least its first 2,049 octets, behind which nothing changes an answer: cut to 1,792, a list of too many entries would
+ * look good. */
+enum seatport_list {
+	SEATPORT_LIST_ENTRIES_MAX = 256, /* and events */
+	SEATPORT_LIST_OCTETS_MAX = 1792,
+	SEATPORT_LIST_OCTETS_ENOUGH = 2049 /* to be read */
+};
+
+/* What a call on a list returns, and behind it what *count (in seatport_gates_write: *written) then is. One entry after
+ * the other is looked at, each for 60, 61, 62 and 63 in this order; the first that fails is told by its place in the
+ * list, from 1 on. Only where all are good is the output's room looked at. A call that does not return 0 writes nothing
+ * to its output; one that does leaves what lies behind its own as it was. Take *count for a count only where 0 was
+ * returned. */
+enum seatport_gates {
+	SEATPORT_GATES_GOOD = 0,           /* how many entries, octets or events were written */
+	SEATPORT_GATES_CUT = 60,           /* which entry: the list ends inside its header, or before the length that it says */
+	SEATPORT_GATES_OPERATION_BAD = 61, /* which entry: operation over 2; of entries to be written also: gates over 255 */
+	SEATPORT_GATES_LENGTH_BAD = 62,    /* which entry: length not 5 */
+	SEATPORT_GATES_TOO_MANY = 63,      /* 257: an entry that is good, but one too many */
+	SEATPORT_GATES_OUTPUT_SHORT = 64   /* how many entries, octets or events there must be room for */
+};
+
+/* An entry. */
+struct seatport_entry {
+	uint32_t operation; /* enum seatport_operation */
+	uint32_t gates;     /* 0 to 255 */
+	uint32_t interval;  /* nanoseconds */
+};
+
+/* The entries of a list, written to the front of `entries`. `room` is how many entries, not octets, there is memory
+ * for, of an array sizeof entries / sizeof entries[0]. *count is what enum seatport_gates says. Returns 0 or 60 to 64. */
+uint32_t seatport_gates_read(const uint8_t *list, uint64_t length, struct seatport_entry *entries, uint64_t room,
+			     uint32_t *count);
+
+/* The list of `count` entries, seven octets each, written to the front of `list`; `room` is in octets. *written is what
+ * enum seatport_gates says. Returns 0, 61, 63 or 64. A list written so is read as the same entries, and entries that
+ * were read are written as the same list. */
+uint32_t seatport_gates_write(const struct seatport_entry *entries, uint64_t count, uint8_t *list, uint64_t room,
+			      uint32_t *written);
+
+/* A hold or a release. */
+struct seatport_gate_event {
+	uint64_t time;      /* nanoseconds from the cycle's start: the sum of all intervals before the entry */
+	uint64_t operation; /* SEATPORT_OPERATION_HOLD or SEATPORT_OPERATION_RELEASE */
+};
+
+/* The holds and releases of a list, in its order, written to the front of `events`; `room` is how many events, not
+ * octets, there is memory for. *count is what enum seatport_gates says; *cycle is the sum of all intervals of the list,
+ * in nanoseconds, where 0 is returned, and 0 where another number is. Returns 0 or 60 to 64. With a room of 0 it tells
+ * how many events there are (by 64), or that there are none (by 0).
+ *
+ * Each event asks for a value of the sending record's flag hold, which is 0 before the first:
+ *     for (i = 0; i < count; i++) {
+ *             wait_until(start + events[i].time - advance);
+ *             wanted = events[i].operation == SEATPORT_OPERATION_HOLD;
+ *     }
+ * and the same again from start + cycle on; with a cycle of 0 there is nothing to repeat. `wanted` is a variable of the
+ * firmware's, copied to sender.hold before each call of seatport_preemptable: the call writes the record back, so that
+ * a hold which a timer set there meanwhile would be lost. An mFrame that is on its way when a hold comes is cut by
+ * `ask`.
+ *
+ * Two things are the firmware's own, since no list has them. In the standard a hold has taken effect at the time of its
+ * event, so that it is asked for earlier, a hold at time 0 in the cycle before: advance is what the port may need until
+ * no preemptable mFrame is on the wire (holdAdvance; for a release, releaseAdvance). And a switch is given its cycle's
+ * length beside the list (ieee8021STAdminCycleTimeNumerator and ..Denominator): where that is not *cycle, it is the one
+ * to go by. */
+uint32_t seatport_gates_events(const uint8_t *list, uint64_t length, struct seatport_gate_event *events, uint64_t room,
+			       uint32_t *count, uint64_t *cycle);
+
+/* The structs are words and nothing else; those of an event have 64 bits. */
 typedef char seatport_written_is_2_words[sizeof(struct seatport_written) == 2 * 4 ? 1 : -1];
 typedef char seatport_sender_is_7_words[sizeof(struct seatport_sender) == 7 * 4 ? 1 : -1];
 typedef char seatport_receiver_is_9_words[sizeof(struct seatport_receiver) == 9 * 4 ? 1 : -1];
 typedef char seatport_part_is_2_words[sizeof(struct seatport_part) == 2 * 4 ? 1 : -1];
 typedef char seatport_link_is_4_words[sizeof(struct seatport_link) == 4 * 4 ? 1 : -1];
 typedef char seatport_content_is_3_words[sizeof(struct seatport_content) == 3 * 4 ? 1 : -1];
+typedef char seatport_entry_is_3_words[sizeof(struct seatport_entry) == 3 * 4 ? 1 : -1];
+typedef char seatport_gate_event_is_2_long_words[sizeof(struct seatport_gate_event) == 2 * 8 ? 1 : -1];
 
 #ifdef __cplusplus
 }

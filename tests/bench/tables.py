@@ -18,7 +18,7 @@ def main():
     rows = {}
     for (order, name, octets), found in sorted(counts.items()):
         rows.setdefault((name, octets), {}).update(found)
-    print(f"\n| {'call':32} | data octets |    port | plain C | ratio |")
+    print(f"\n| {'call':32} |      octets |    port | plain C | ratio |")
     print(f"|{'-' * 34}|------------:|--------:|--------:|------:|")
     for (name, octets), found in rows.items():
         port, plain = found["port"] - found["nothing"], found["plain"] - found["nothing"]

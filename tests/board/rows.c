@@ -5,7 +5,7 @@
 #include "plain.h"
 #include "seatport.h"
 
-enum { PRESS = 60, PHOTOGRAPH = 1518, CUT = 760 };
+enum { PRESS = 60, PHOTOGRAPH = 1518, CUT = 760, ENTRIES = SEATPORT_LIST_ENTRIES_MAX, LIST = SEATPORT_LIST_OCTETS_MAX };
 
 static uint8_t press[PRESS], photograph[PHOTOGRAPH];
 
@@ -18,7 +18,7 @@ static uint64_t ask;
 static struct plain_sender sender_before;
 static struct plain_receiver receiver_before;
 
-static uint8_t port_memory[SEATPORT_SIZE_MFRAME_MAX], plain_memory[SEATPORT_SIZE_MFRAME_MAX];
+static uint8_t port_memory[LIST], plain_memory[LIST];
 static struct seatport_sender port_sender;
 static struct plain_sender plain_sender;
 static struct seatport_receiver port_receiver;
@@ -26,6 +26,15 @@ static struct plain_receiver plain_receiver;
 static struct seatport_written port_written;
 static struct plain_written plain_written;
 static uint32_t port_detail, plain_detail, port_answer, plain_answer;
+
+/* The same of the hall's schedule. */
+static struct plain_entry entries[ENTRIES];
+static uint8_t list[LIST];
+static struct seatport_entry port_entries[ENTRIES];
+static struct plain_entry plain_entries[ENTRIES];
+static struct seatport_gate_event port_events[ENTRIES];
+static struct plain_gate_event plain_events[ENTRIES];
+static uint64_t port_cycle, plain_cycle;
 
 static void clear(void)
 {
@@ -56,7 +65,9 @@ int row_agrees(void)
 	       memcmp(port_memory, plain_memory, sizeof port_memory) == 0 &&
 	       memcmp(&port_sender, &plain_sender, sizeof port_sender) == 0 &&
 	       memcmp(&port_receiver, &plain_receiver, sizeof port_receiver) == 0 &&
-	       memcmp(&port_written, &plain_written, sizeof port_written) == 0;
+	       memcmp(&port_written, &plain_written, sizeof port_written) == 0 && port_cycle == plain_cycle &&
+	       memcmp(port_entries, plain_entries, sizeof port_entries) == 0 &&
+	       memcmp(port_events, plain_events, sizeof port_events) == 0;
 }
 
 /* Receiving */
@@ -217,6 +228,50 @@ static void photograph_rest(void)
 	sender_before.sent = CUT;
 }
 
+/* The hall's schedule */
+
+/* As long a list as there is, each of its entries a hold or a release. */
+static void longest_list(void)
+{
+	clear();
+	for (uint32_t i = 0; i < ENTRIES; i++) {
+		entries[i].operation = 1 + i % 2;
+		entries[i].gates = i;
+		entries[i].interval = UINT32_MAX - i * i;
+	}
+	plain_gates_write(entries, ENTRIES, list, sizeof list, &plain_detail);
+}
+
+static void port_reads_list(void)
+{
+	port_answer = seatport_gates_read(list, sizeof list, port_entries, ENTRIES, &port_detail);
+}
+
+static void plain_reads_list(void)
+{
+	plain_answer = (uint32_t)plain_gates_read(list, sizeof list, plain_entries, ENTRIES, &plain_detail);
+}
+
+static void port_writes_list(void)
+{
+	port_answer = seatport_gates_write((const struct seatport_entry *)entries, ENTRIES, port_memory, sizeof port_memory, &port_detail);
+}
+
+static void plain_writes_list(void)
+{
+	plain_answer = (uint32_t)plain_gates_write(entries, ENTRIES, plain_memory, sizeof plain_memory, &plain_detail);
+}
+
+static void port_lists_events(void)
+{
+	port_answer = seatport_gates_events(list, sizeof list, port_events, ENTRIES, &port_detail, &port_cycle);
+}
+
+static void plain_lists_events(void)
+{
+	plain_answer = (uint32_t)plain_gates_events(list, sizeof list, plain_events, ENTRIES, &plain_detail, &plain_cycle);
+}
+
 const struct row rows[] = {
 	{ "express 72 received", PRESS, express_short, no_receiving, port_receives, plain_receives },
 	{ "express 1,530 received", PHOTOGRAPH, express_long, no_receiving, port_receives, plain_receives },
@@ -233,6 +288,9 @@ const struct row rows[] = {
 	{ "photograph sent whole", PHOTOGRAPH, clear, no_sending, port_sends, plain_sends },
 	{ "photograph sent, cut at 760", CUT, photograph_cut, no_sending, port_sends, plain_sends },
 	{ "photograph sent, the rest", PHOTOGRAPH, photograph_rest, no_sending, port_sends, plain_sends },
+	{ "list of 256 entries read", LIST, longest_list, nothing, port_reads_list, plain_reads_list },
+	{ "list of 256 entries written", LIST, longest_list, nothing, port_writes_list, plain_writes_list },
+	{ "list of 256 entries, its events", LIST, longest_list, nothing, port_lists_events, plain_lists_events },
 };
 
 const unsigned row_count = sizeof rows / sizeof rows[0];

@@ -6,8 +6,8 @@
 
 struct row {
 	const char *name;
-	uint32_t octets;       /* data octets that the call sums and copies */
-	void (*prepare)(void); /* makes the row's mFrame and records */
+	uint32_t octets;       /* data octets that the call sums and copies, or the octets of the list */
+	void (*prepare)(void); /* makes the row's mFrame and records, or its list */
 	void (*nothing)(void); /* what port and plain do besides the call */
 	void (*port)(void);
 	void (*plain)(void);

@@ -9,7 +9,7 @@ export SEATPORT_TRIPLE := $(value TRIPLE)
 export SEATPORT_OPTIONS := $(value OPTIONS)
 unexport TRIPLE OPTIONS
 
-c-test: ## archive, header, example and the port against plain C; part of make test
+c-test: ## archive, header, examples and the port against plain C; part of make test
 	@$(project)/tests/c/run
 
 firmware: ## hands over the port for the board's Cortex-M3, with TRIPLE=.. OPTIONS=.. for another processor

@@ -9,9 +9,9 @@
 #include <stdlib.h>
 #include <string.h>
 
-enum { SENDS = 20000, RECEIVES = 40000, STEPS = 20000, TRACES = 10000, MEMORY = 2048, BEHIND = 64 };
+enum { SENDS = 20000, RECEIVES = 40000, STEPS = 20000, TRACES = 10000, LISTS = 10000, MEMORY = 2048, BEHIND = 64 };
 
-static unsigned counts[64];
+static unsigned counts[65];
 static const char *call;
 static unsigned turn;
 
@@ -471,12 +471,184 @@ static void trace_all(void)
 	reached("trace", numbers, sizeof numbers / sizeof numbers[0]);
 }
 
+/* The hall's schedule. An entry more than a list may have is 257, and rooms go to two more. */
+
+enum { ENTRY = 7, ENTRIES = 258, ROWS = ENTRIES + 4 };
+
+static uint8_t list[ENTRIES * ENTRY + ENTRY];
+
+static uint32_t some_entries(void)
+{
+	return one_in(3) ? between(254, ENTRIES) : chance(12);
+}
+
+static uint32_t some_interval(void)
+{
+	return one_in(3) ? odd_word() : word();
+}
+
+/* Spoils an entry: its operation, or its length, which may also be just what is left of the list, or one more. */
+static void damage_entry(uint8_t *entry, size_t left)
+{
+	static const uint8_t lengths[] = { 0, 1, 4, 5, 6, 7, 200, 255 };
+	if (one_in(2))
+		entry[0] = (uint8_t)(one_in(2) ? 3 : chance(256));
+	else if (one_in(2))
+		entry[1] = lengths[chance(sizeof lengths)];
+	else
+		entry[1] = (uint8_t)(left - 2 + chance(2));
+}
+
+/* Spoils an entry of the list, often the last, or takes octets from its end, or puts some behind it, of which the second may
+ * be a length that just fits or just does not; how many octets it then has. */
+static size_t damage_list(size_t n)
+{
+	uint32_t whole = (uint32_t)(n / ENTRY);
+	if (whole > 0 && one_in(2)) {
+		size_t at = ENTRY * (one_in(2) ? whole - 1 : chance(whole));
+		damage_entry(list + at, n - at);
+		return n;
+	}
+	if (n > ENTRY && one_in(2))
+		return n - between(1, ENTRY - 1);
+	uint32_t more = between(1, ENTRY - 1);
+	if (n + more > sizeof list)
+		return n;
+	fill(list + n, more);
+	if (more > 1 && one_in(2))
+		list[n + 1] = (uint8_t)chance(more);
+	return n + more;
+}
+
+/* Makes a list; how many octets it has. In some every operation is a hold or a release. */
+static size_t some_list(void)
+{
+	uint32_t entries = some_entries(), least = one_in(3);
+	size_t n = entries * ENTRY;
+	for (uint8_t *entry = list; entry != list + n; entry += ENTRY) {
+		uint32_t interval = some_interval();
+		entry[0] = (uint8_t)between(least, 2);
+		entry[1] = 5;
+		entry[2] = (uint8_t)chance(256);
+		for (unsigned i = 0; i < 4; i++)
+			entry[3 + i] = (uint8_t)(interval >> (24 - 8 * i));
+	}
+	while (one_in(3))
+		n = damage_list(n);
+	return n;
+}
+
+/* How much was written in all by the calls that were not refused, and the most by one. */
+static unsigned written_in_all, written_most;
+
+static void written_by(uint32_t number, uint32_t port, uint32_t plain)
+{
+	if (port != plain)
+		fail("another count");
+	if (number != SEATPORT_GATES_GOOD)
+		return;
+	written_in_all += port;
+	if (port > written_most)
+		written_most = port;
+}
+
+static void all_written(const char *what, uint32_t most)
+{
+	printf("%-12s %u %s, at most %u\n", "", written_in_all, what, written_most);
+	if (written_most != most)
+		fail("the longest list was never good");
+	written_in_all = written_most = 0;
+}
+
+static void gates_read_all(void)
+{
+	static const unsigned numbers[] = { 0, 60, 61, 62, 63, 64 };
+	static struct seatport_entry port[ROWS];
+	static struct plain_entry plain[ROWS];
+	call = "gates_read";
+	for (turn = 0; turn < LISTS; turn++) {
+		size_t n = some_list();
+		uint32_t port_count = 7, plain_count = 7, needed;
+		plain_gates_read(list, n, plain, 0, &needed);
+		uint64_t room = near(needed, ENTRIES);
+		fill((uint8_t *)plain, sizeof plain);
+		memcpy(port, plain, sizeof port);
+		uint32_t number = seatport_gates_read(list, n, port, room, &port_count);
+		answered(number, plain_gates_read(list, n, plain, (size_t)room, &plain_count));
+		written_by(number, port_count, plain_count);
+		same(port, plain, sizeof port, "other entries in lent memory, or behind it");
+	}
+	reached("gates read", numbers, sizeof numbers / sizeof numbers[0]);
+	all_written("entries", SEATPORT_LIST_ENTRIES_MAX);
+}
+
+static void gates_events_all(void)
+{
+	static const unsigned numbers[] = { 0, 60, 61, 62, 63, 64 };
+	static struct seatport_gate_event port[ROWS];
+	static struct plain_gate_event plain[ROWS];
+	call = "gates_events";
+	for (turn = 0; turn < LISTS; turn++) {
+		size_t n = some_list();
+		uint32_t port_count = 7, plain_count = 7, needed;
+		uint64_t port_cycle = 7, plain_cycle = 7;
+		plain_gates_events(list, n, plain, 0, &needed, &plain_cycle);
+		uint64_t room = near(needed, ENTRIES);
+		fill((uint8_t *)plain, sizeof plain);
+		memcpy(port, plain, sizeof port);
+		uint32_t number = seatport_gates_events(list, n, port, room, &port_count, &port_cycle);
+		answered(number, plain_gates_events(list, n, plain, (size_t)room, &plain_count, &plain_cycle));
+		written_by(number, port_count, plain_count);
+		same(&port_cycle, &plain_cycle, sizeof port_cycle, "another cycle");
+		same(port, plain, sizeof port, "other events in lent memory, or behind it");
+	}
+	reached("gates events", numbers, sizeof numbers / sizeof numbers[0]);
+	all_written("events", SEATPORT_LIST_ENTRIES_MAX);
+}
+
+/* Makes entries, now and then with words among them that no entry has; how many. */
+static uint32_t some_rows(struct plain_entry *entries)
+{
+	uint32_t n = some_entries();
+	for (uint32_t i = 0; i < n; i++) {
+		entries[i].operation = chance(3);
+		entries[i].gates = chance(256);
+		entries[i].interval = some_interval();
+	}
+	while (n > 0 && one_in(3))
+		spoil(&entries[one_in(2) ? n - 1 : chance(n)], 2);
+	return n;
+}
+
+static void gates_write_all(void)
+{
+	static const unsigned numbers[] = { 0, 61, 63, 64 };
+	static struct seatport_entry port[ENTRIES];
+	static struct plain_entry plain[ENTRIES];
+	call = "gates_write";
+	for (turn = 0; turn < LISTS; turn++) {
+		uint32_t n = some_rows(plain), port_written = 7, plain_written = 7;
+		uint64_t room = near(n * ENTRY, MEMORY);
+		memcpy(port, plain, sizeof port);
+		lend();
+		uint32_t number = seatport_gates_write(port, n, port_memory, room, &port_written);
+		answered(number, plain_gates_write(plain, n, plain_memory, (size_t)room, &plain_written));
+		written_by(number, port_written, plain_written);
+		same_memory();
+	}
+	reached("gates write", numbers, sizeof numbers / sizeof numbers[0]);
+	all_written("octets", SEATPORT_LIST_OCTETS_MAX);
+}
+
 int main(void)
 {
 	send_all();
 	receive_all();
 	step_all();
 	trace_all();
+	gates_read_all();
+	gates_write_all();
+	gates_events_all();
 	if (fflush(stdout) != 0 || ferror(stdout)) {
 		fputs("compare: the output could not be written.\n", stderr);
 		return 1;

@@ -1,9 +1,9 @@
 /* The header alone, as C99 and as C++98: it compiles without a warning, its functions link under their names, its version is
- * a number for the preprocessor, and records written as it says are taken by each call. */
+ * a number for the preprocessor, and records and entries written as it says are taken by each call. */
 #include "seatport.h"
 
-#if 100 * SEATPORT_VERSION_MAJOR + SEATPORT_VERSION_MINOR < 100
-#error "the first version is 1.0"
+#if 100 * SEATPORT_VERSION_MAJOR + SEATPORT_VERSION_MINOR < 101
+#error "the calls on the hall's schedule came with version 1.1"
 #endif
 
 int main(void)
@@ -13,12 +13,22 @@ int main(void)
 	struct seatport_link link = SEATPORT_LINK_FRESH;
 	struct seatport_written written;
 	uint8_t body[SEATPORT_SIZE_BODY_MIN] = { 0 }, output[SEATPORT_SIZE_OUTPUT], buffer[SEATPORT_SIZE_ASSEMBLY];
-	uint32_t detail, ordered;
+	struct seatport_entry entry = { SEATPORT_OPERATION_HOLD, 255, 1000 };
+	struct seatport_gate_event event;
+	uint8_t list[7];
+	uint32_t detail, ordered, count;
+	uint64_t cycle;
 	if (seatport_preemptable(&sender, body, sizeof body, SEATPORT_NO_ASK, output, sizeof output, &written) != SEATPORT_SENT_WRITTEN)
 		return 1;
 	if (seatport_receive(&receiver, output, written.length, buffer, sizeof buffer, &detail) != SEATPORT_ANSWER_EXPRESS)
 		return 2;
 	if (seatport_step(&link, SEATPORT_EVENT_ENABLE, &ordered) != SEATPORT_STEPPED_TAKEN)
 		return 3;
+	if (seatport_gates_write(&entry, 1, list, sizeof list, &count) != SEATPORT_GATES_GOOD || count != sizeof list)
+		return 4;
+	if (seatport_gates_read(list, sizeof list, &entry, 1, &count) != SEATPORT_GATES_GOOD || count != 1)
+		return 5;
+	if (seatport_gates_events(list, sizeof list, &event, 1, &count, &cycle) != SEATPORT_GATES_GOOD || cycle != entry.interval)
+		return 6;
 	return 0;
 }

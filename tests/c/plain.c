@@ -1,4 +1,4 @@
-/* Document 01 in plain C; plain.h says what for. */
+/* Document 01, and document 02, (i), in plain C; plain.h says what for. */
 #include "plain.h"
 
 #include <string.h>
@@ -485,5 +485,121 @@ int plain_trace(const uint8_t *trace, size_t n, size_t at, struct plain_content 
 	content->start = at + 4;
 	content->length = length;
 	content->next = at + 4 + length;
+	return 0;
+}
+
+/* The hall's schedule */
+
+enum { ENTRY_HEADER = 2, ENTRY_VALUE = 5, ENTRY = ENTRY_HEADER + ENTRY_VALUE, ENTRIES_MAX = 256, OPERATION_MAX = 2, GATES_MAX = 255 };
+
+/* What is found in a list of which every entry is good. */
+struct schedule {
+	uint32_t entries, events;
+	uint64_t cycle;
+};
+
+static uint32_t interval_of(const uint8_t *entry)
+{
+	return (uint32_t)entry[3] << 24 | (uint32_t)entry[4] << 16 | (uint32_t)entry[5] << 8 | entry[6];
+}
+
+/* The entry at the front of n octets, n at least 1. */
+static int entry_fault(const uint8_t *entry, size_t n)
+{
+	if (n < ENTRY_HEADER || n - ENTRY_HEADER < entry[1])
+		return 60;
+	if (entry[0] > OPERATION_MAX)
+		return 61;
+	return entry[1] == ENTRY_VALUE ? 0 : 62;
+}
+
+/* A refused entry is the last that was counted. */
+static int find(const uint8_t *list, size_t n, struct schedule *found)
+{
+	found->entries = found->events = 0;
+	found->cycle = 0;
+	for (; n != 0; n -= ENTRY, list += ENTRY) {
+		int fault = entry_fault(list, n);
+		found->entries++;
+		if (fault != 0)
+			return fault;
+		if (found->entries > ENTRIES_MAX)
+			return 63;
+		found->events += list[0] != 0;
+		found->cycle += interval_of(list);
+	}
+	return 0;
+}
+
+int plain_gates_read(const uint8_t *list, size_t n, struct plain_entry *entries, size_t room, uint32_t *count)
+{
+	struct schedule found;
+	int fault = find(list, n, &found);
+	*count = found.entries;
+	if (fault != 0)
+		return fault;
+	if (found.entries > room)
+		return 64;
+	for (const uint8_t *end = list + n; list != end; list += ENTRY, entries++) {
+		entries->operation = list[0];
+		entries->gates = list[2];
+		entries->interval = interval_of(list);
+	}
+	return 0;
+}
+
+int plain_gates_events(const uint8_t *list, size_t n, struct plain_gate_event *events, size_t room, uint32_t *count,
+		       uint64_t *cycle)
+{
+	struct schedule found;
+	int fault = find(list, n, &found);
+	uint64_t time = 0;
+	*count = fault != 0 ? found.entries : found.events;
+	*cycle = 0;
+	if (fault != 0)
+		return fault;
+	if (found.events > room)
+		return 64;
+	for (const uint8_t *end = list + n; list != end; list += ENTRY) {
+		if (list[0] != 0) {
+			events->time = time;
+			events->operation = list[0];
+			events++;
+		}
+		time += interval_of(list);
+	}
+	*cycle = found.cycle;
+	return 0;
+}
+
+/* An entry that is to be written behind so many others. */
+static int unwritable(const struct plain_entry *entry, size_t behind)
+{
+	if (entry->operation > OPERATION_MAX || entry->gates > GATES_MAX)
+		return 61;
+	return behind < ENTRIES_MAX ? 0 : 63;
+}
+
+int plain_gates_write(const struct plain_entry *entries, size_t n, uint8_t *list, size_t room, uint32_t *count)
+{
+	for (size_t i = 0; i < n; i++) {
+		int fault = unwritable(entries + i, i);
+		if (fault != 0) {
+			*count = (uint32_t)i + 1;
+			return fault;
+		}
+	}
+	*count = (uint32_t)n * ENTRY;
+	if (*count > room)
+		return 64;
+	for (const struct plain_entry *end = entries + n; entries != end; entries++) {
+		*list++ = (uint8_t)entries->operation;
+		*list++ = ENTRY_VALUE;
+		*list++ = (uint8_t)entries->gates;
+		*list++ = (uint8_t)(entries->interval >> 24);
+		*list++ = (uint8_t)(entries->interval >> 16);
+		*list++ = (uint8_t)(entries->interval >> 8);
+		*list++ = (uint8_t)entries->interval;
+	}
 	return 0;
 }

@@ -1,6 +1,7 @@
-/* The calls of document 01 a second time, in plain C. It shares no code with the port: tests/c/compare.c holds the port
- * against it octet for octet, and the benchmarks measure the port beside it. It is written as one would write it for a
- * small board: a table for the check octets, memcpy, records that the caller keeps, no allocation. */
+/* The calls of document 01, and those of document 02, (i), a second time, in plain C. It shares no code with the port:
+ * tests/c/compare.c holds the port against it octet for octet, and the benchmarks measure the port beside it. It is written
+ * as one would write it for a small board: a table for the check octets, memcpy, records that the caller keeps, no
+ * allocation. */
 #ifndef PLAIN_H
 #define PLAIN_H
 
@@ -46,6 +47,16 @@ struct plain_content {
 	size_t start, length, next;
 };
 
+/* An entry of a gate control list. */
+struct plain_entry {
+	uint32_t operation, gates, interval;
+};
+
+/* An entry of operation 1 or 2, with the nanoseconds before it. */
+struct plain_gate_event {
+	uint64_t time, operation;
+};
+
 /* The answer of plain_trace where no octet is left. */
 #define PLAIN_TRACE_END 1
 
@@ -68,5 +79,12 @@ int plain_event(struct plain_link *link, uint32_t event, bool *ordered);
 
 /* The record of a trace at a place: 0, PLAIN_TRACE_END, or the number of the refusal. */
 int plain_trace(const uint8_t *trace, size_t n, size_t at, struct plain_content *content);
+
+/* The hall's schedule: 0, or the number of the refusal. The count is of what was written; after 60 to 63 it is the entry's
+ * place from 1 on, after 64 the room that is needed. */
+int plain_gates_read(const uint8_t *list, size_t n, struct plain_entry *entries, size_t room, uint32_t *count);
+int plain_gates_write(const struct plain_entry *entries, size_t n, uint8_t *list, size_t room, uint32_t *count);
+int plain_gates_events(const uint8_t *list, size_t n, struct plain_gate_event *events, size_t room, uint32_t *count,
+		       uint64_t *cycle);
 
 #endif

@@ -71,3 +71,20 @@ uint32_t seatport_step(struct seatport_link *link, uint32_t event, uint32_t *ord
 	*ordered = order;
 	return (uint32_t)number;
 }
+
+/* An entry and an event have the same fields in both; only their names differ. */
+uint32_t seatport_gates_read(const uint8_t *list, uint64_t length, struct seatport_entry *entries, uint64_t room, uint32_t *count)
+{
+	return (uint32_t)plain_gates_read(list, (size_t)length, (struct plain_entry *)entries, (size_t)room, count);
+}
+
+uint32_t seatport_gates_write(const struct seatport_entry *entries, uint64_t count, uint8_t *list, uint64_t room, uint32_t *written)
+{
+	return (uint32_t)plain_gates_write((const struct plain_entry *)entries, (size_t)count, list, (size_t)room, written);
+}
+
+uint32_t seatport_gates_events(const uint8_t *list, uint64_t length, struct seatport_gate_event *events, uint64_t room,
+			       uint32_t *count, uint64_t *cycle)
+{
+	return (uint32_t)plain_gates_events(list, (size_t)length, (struct plain_gate_event *)events, (size_t)room, count, cycle);
+}

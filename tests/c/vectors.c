@@ -1,5 +1,5 @@
 /* Runs stored questions through the calls of seatport.h, be they the port's or plain C's (plain_port.c):
- * vectors send|receive|verify < stdin > stdout. tests/reference/README.md has the layout of the questions and of the
+ * vectors send|receive|verify|gates < stdin > stdout. tests/reference/README.md has the layout of the questions and of the
  * answers; the expected output was made by the reference. */
 #include "seatport.h"
 
@@ -9,7 +9,19 @@
 #include <stdlib.h>
 #include <string.h>
 
-enum { LONGEST = 2048 };
+enum { LONGEST = 2048, ROWS = 300 };
+
+/* What a question gives to its call, and what it lends to it. */
+static union {
+	uint8_t octets[LONGEST];
+	struct seatport_entry entries[ROWS];
+} given;
+
+static union {
+	uint8_t octets[ROWS * sizeof(struct seatport_gate_event)];
+	struct seatport_entry entries[ROWS];
+	struct seatport_gate_event events[ROWS];
+} lent;
 
 static void fail(const char *why)
 {
@@ -53,15 +65,16 @@ static size_t run(uint8_t *octets)
 	return n;
 }
 
-static size_t lend(uint8_t *memory)
+/* Room for so many things, each of this size. */
+static size_t lend(size_t size)
 {
-	size_t n = word(2);
-	if (n > LONGEST)
+	size_t room = word(2);
+	if (room * size > sizeof lent.octets)
 		fail("more memory is asked for than there is");
 	uint64_t fill = number(1);
-	for (size_t i = 0; i < n; i++)
-		memory[i] = (uint8_t)(fill + i);
-	return n;
+	for (size_t i = 0; i < room * size; i++)
+		lent.octets[i] = (uint8_t)(fill + i);
+	return room;
 }
 
 /* The FCS by bits, so that what is compared with is not what is tested. */
@@ -76,13 +89,13 @@ static void print_check(const uint8_t *octets, size_t n)
 		printf("%02x", (unsigned)(~r >> 8 * i & 0xff));
 }
 
-static void print_written(const char *name, uint32_t refusal, const struct seatport_written *w, const uint8_t *out, size_t room)
+static void print_written(const char *name, uint32_t refusal, const struct seatport_written *w, size_t room)
 {
 	if (refusal != 0)
 		printf("%s refused %" PRIu32 " ", name, refusal);
 	else
 		printf("%s %" PRIu32 " %" PRIu32 " ", name, w->length, w->done);
-	print_check(out, room);
+	print_check(lent.octets, room);
 }
 
 /* A number that is over 32 bits fits no record; so does this one. */
@@ -91,23 +104,22 @@ static uint32_t clamped(uint64_t x)
 	return x > UINT32_MAX ? UINT32_MAX : (uint32_t)x;
 }
 
-static uint8_t body[LONGEST], out[LONGEST];
 static struct seatport_written written;
 
 static void express(void)
 {
-	size_t n = word(2), room = lend(out);
-	take(body, n);
-	uint32_t refusal = seatport_express(body, n, out, room, &written);
-	print_written("express", refusal, &written, out, room);
+	size_t n = word(2), room = lend(1);
+	take(given.octets, n);
+	uint32_t refusal = seatport_express(given.octets, n, lent.octets, room, &written);
+	print_written("express", refusal, &written, room);
 	putchar('\n');
 }
 
 static void order(const char *name, uint32_t (*call)(uint8_t *, uint64_t, struct seatport_written *))
 {
-	size_t room = lend(out);
-	uint32_t refusal = call(out, room, &written);
-	print_written(name, refusal, &written, out, room);
+	size_t room = lend(1);
+	uint32_t refusal = call(lent.octets, room, &written);
+	print_written(name, refusal, &written, room);
 	putchar('\n');
 }
 
@@ -137,15 +149,15 @@ static void preemptable(struct wide_sender *s, const uint8_t *frame, size_t n)
 {
 	bool asked = number(1) != 0;
 	uint64_t place = number(8);
-	size_t room = lend(out);
+	size_t room = lend(1);
 	s->words.length = clamped(s->length);
 	s->words.sent = clamped(s->sent);
-	uint32_t refusal = seatport_preemptable(&s->words, frame, n, asked ? place : SEATPORT_NO_ASK, out, room, &written);
+	uint32_t refusal = seatport_preemptable(&s->words, frame, n, asked ? place : SEATPORT_NO_ASK, lent.octets, room, &written);
 	if (refusal == 0) {
 		s->length = s->words.length;
 		s->sent = s->words.sent;
 	}
-	print_written("preemptable", refusal, &written, out, room);
+	print_written("preemptable", refusal, &written, room);
 	printf(" %" PRIu32 " %" PRIu32 " %" PRIu32 " %" PRIu32 " %" PRIu64 " %" PRIu64 " %" PRIu32 "\n", s->words.active,
 	       s->words.hold, s->words.extra, s->words.next, s->length, s->sent, s->words.fragment);
 }
@@ -203,21 +215,21 @@ static void set_receiver(struct wide_receiver *r)
 	r->words.fragments = word(4);
 }
 
-static void receive(struct wide_receiver *wide, uint8_t *buffer, size_t room)
+static void receive(struct wide_receiver *wide, size_t room)
 {
-	static uint8_t mframe[LONGEST];
+	const uint8_t *mframe = given.octets;
 	struct seatport_receiver *r = &wide->words;
 	struct seatport_part part;
 	uint32_t detail;
-	size_t n = run(mframe);
+	size_t n = run(given.octets);
 	r->kept = clamped(wide->kept);
-	uint32_t answer = seatport_receive(r, mframe, n, buffer, room, &detail);
+	uint32_t answer = seatport_receive(r, mframe, n, lent.octets, room, &detail);
 	if (answer != SEATPORT_ANSWER_BUFFER_SHORT && answer != SEATPORT_ANSWER_RECORD_BAD)
 		wide->kept = r->kept;
 	printf("%" PRIu32 " %" PRIu32 " %" PRIu32 " %" PRIu32 " %" PRIu32 " %" PRIu64 " %08" PRIx32, answer, detail, r->assembling,
 	       r->frame, r->fragment, wide->kept, r->crc);
 	printf(" %" PRIu32 " %" PRIu32 " %" PRIu32 " %" PRIu32 " ", r->assembly_errors, r->delimiter_errors, r->assembled, r->fragments);
-	print_check(buffer, room);
+	print_check(lent.octets, room);
 	seatport_express_body(mframe, n, &part);
 	printf(" %" PRIu32 " %" PRIu32 " ", part.start, part.length);
 	print_check(mframe + part.start, part.length);
@@ -226,7 +238,6 @@ static void receive(struct wide_receiver *wide, uint8_t *buffer, size_t room)
 
 static void receive_questions(void)
 {
-	static uint8_t buffer[LONGEST];
 	struct wide_receiver receiver = { SEATPORT_RECEIVER_FRESH, 0 };
 	size_t room = 0;
 	for (int question; (question = getchar()) != EOF;) {
@@ -235,10 +246,10 @@ static void receive_questions(void)
 			set_receiver(&receiver);
 			break;
 		case 2:
-			room = lend(buffer);
+			room = lend(1);
 			break;
 		case 3:
-			receive(&receiver, buffer, room);
+			receive(&receiver, room);
 			break;
 		default:
 			fail("no such question");
@@ -276,6 +287,75 @@ static void verify_questions(void)
 	}
 }
 
+/* The end of a line: all of the lent memory, which has room for so many things of this size. */
+static void print_lent(size_t room, size_t size)
+{
+	putchar(' ');
+	print_check(lent.octets, room * size);
+	putchar('\n');
+}
+
+static void read_list(void)
+{
+	uint32_t count;
+	size_t n = word(2), room = lend(sizeof(struct seatport_entry));
+	take(given.octets, n);
+	uint32_t answer = seatport_gates_read(given.octets, n, lent.entries, room, &count);
+	printf("read %" PRIu32 " %" PRIu32, answer, count);
+	print_lent(room, sizeof(struct seatport_entry));
+}
+
+static void take_entries(size_t n)
+{
+	if (n > ROWS)
+		fail("there are too many entries");
+	for (struct seatport_entry *entry = given.entries; entry != given.entries + n; entry++) {
+		entry->operation = word(4);
+		entry->gates = word(4);
+		entry->interval = word(4);
+	}
+}
+
+static void write_list(void)
+{
+	uint32_t octets;
+	size_t n = word(2), room = lend(1);
+	take_entries(n);
+	uint32_t answer = seatport_gates_write(given.entries, n, lent.octets, room, &octets);
+	printf("write %" PRIu32 " %" PRIu32, answer, octets);
+	print_lent(room, 1);
+}
+
+static void list_events(void)
+{
+	uint32_t count;
+	uint64_t cycle;
+	size_t n = word(2), room = lend(sizeof(struct seatport_gate_event));
+	take(given.octets, n);
+	uint32_t answer = seatport_gates_events(given.octets, n, lent.events, room, &count, &cycle);
+	printf("events %" PRIu32 " %" PRIu32 " %" PRIu64, answer, count, cycle);
+	print_lent(room, sizeof(struct seatport_gate_event));
+}
+
+static void gates_questions(void)
+{
+	for (int question; (question = getchar()) != EOF;) {
+		switch (question) {
+		case 1:
+			read_list();
+			break;
+		case 2:
+			write_list();
+			break;
+		case 3:
+			list_events();
+			break;
+		default:
+			fail("no such question");
+		}
+	}
+}
+
 int main(int argc, char **argv)
 {
 	if (argc == 2 && strcmp(argv[1], "send") == 0)
@@ -284,8 +364,10 @@ int main(int argc, char **argv)
 		receive_questions();
 	else if (argc == 2 && strcmp(argv[1], "verify") == 0)
 		verify_questions();
+	else if (argc == 2 && strcmp(argv[1], "gates") == 0)
+		gates_questions();
 	else
-		fail("one word chooses the questions: send, receive or verify");
+		fail("one word chooses the questions: send, receive, verify or gates");
 	if (ferror(stdin))
 		fail("the questions could not be read");
 	if (fflush(stdout) != 0 || ferror(stdout))

@@ -1,14 +1,17 @@
--- No second answer, no other words and no other octets meet a promise of this crate.
+-- No second answer, no other words, no other octets and no other rows meet a promise of this crate.
 -- Assumes nothing.
 use mathlib.Core.Path.{_≡_, sym, _∙_}
 use mathlib.Core.List.{List}
 use Prim.Native.Nat.{ℕ}
 use Rattle.sender_answers.specs.Answers.{Outcome}
 use Rattle.trace.specs.Trace.{Said}
+use Rattle.gate_events.specs.Events.{Event}
+use Rattle.gates.specs.Gates as G
 use Rattle.seatport.specs.Sending.{Wrote, Sending, Sent}
 use Rattle.seatport.specs.Receiving.{Receiving, Received, partOf}
 use Rattle.seatport.specs.Verifying.{Verifying, Taken}
 use Rattle.seatport.specs.Tracing.{Traced}
+use Rattle.seatport.specs.Scheduling.{Scheduled, Listed}
 
 -- seatport_express, seatport_verify, seatport_respond
 pub wrote-once : (o : Outcome) (out : List ℕ) {m n : ℕ} {v w x y : List ℕ} → Wrote o out m v x → Wrote o out n w y → (m ≡ n) × ((v ≡ w) × (x ≡ y))
@@ -36,3 +39,14 @@ taken-once s p q = (p .answer ∙ sym (q .answer), (p .value ∙ sym (q .value),
 -- seatport_trace
 pub traced-once : (s : Said) {m n : ℕ} {v w : List ℕ} → Traced s m v → Traced s n w → (m ≡ n) × (v ≡ w)
 traced-once s p q = (p .answer ∙ sym (q .answer), p .words ∙ sym (q .words))
+
+-- seatport_gates_read, seatport_gates_write
+pub scheduled-once : {A : Type 0} (o : G.Outcome A) (out : List A) {m n c d : ℕ} {x y : List A} → Scheduled o out m c x → Scheduled o out n d y
+    → (m ≡ n) × ((c ≡ d) × (x ≡ y))
+scheduled-once o out p q = (p .answer ∙ sym (q .answer), (p .value ∙ sym (q .value), p .output ∙ sym (q .output)))
+
+-- seatport_gates_events
+pub listed-once : (o : G.Outcome Event) (s : List ℕ) (out : List Event) {m n c d k l : ℕ} {x y : List Event} → Listed o s out m c k x
+    → Listed o s out n d l y → (m ≡ n) × ((c ≡ d) × ((k ≡ l) × (x ≡ y)))
+listed-once o s out p q =
+    (p .answer ∙ sym (q .answer), (p .value ∙ sym (q .value), (p .cycle ∙ sym (q .cycle), p .output ∙ sym (q .output))))

@@ -1,4 +1,5 @@
 pub mod Receiving
+pub mod Scheduling
 pub mod Sending
 pub mod Tracing
 pub mod Verifying

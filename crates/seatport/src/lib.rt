@@ -1,12 +1,16 @@
-// The port for C and Rust to link: an exported function for each public call of document 01, over numbers, lent octets and records that are
-// words of 32 bits. include/seatport.h declares them.
+// The port for C and Rust to link: an exported function for each public call of document 01, and of document 02, (i), over numbers, lent octets
+// and words, and records that are words of 32 bits. include/seatport.h declares them.
 mod receiving;
+mod scheduling;
 mod sending;
 mod tracing;
 mod verifying;
 
 pub use receiving::seatport_express_body;
 pub use receiving::seatport_receive;
+pub use scheduling::seatport_gates_events;
+pub use scheduling::seatport_gates_read;
+pub use scheduling::seatport_gates_write;
 pub use sending::seatport_express;
 pub use sending::seatport_preemptable;
 pub use sending::seatport_respond;
