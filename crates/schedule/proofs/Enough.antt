@@ -16,7 +16,7 @@ use Rattle.gate_lists.specs.Lists.{most, Said, good, refused, short, walk, octe
 use Rattle.gate_lists.proofs.Laws.{octets-going}
 use Rattle.gate_lists.proofs.Good.{octets-good}
 use Rattle.gate_events.specs.Events.{sumOf, eventsFrom}
-use Rattle.gates.specs.Gates.{outcome, entriesIn, entriesOf, eventsOf, cycleOf}
+use Rattle.gates.specs.Gates.{outcome, entriesIn, entriesOf, readOf, eventsOf, cycleOf}
 use Rattle.schedule.specs.Typed.{Octets}
 use Rattle.schedule.specs.Window.{enoughOctets}
 
@@ -78,7 +78,7 @@ enough s o n m = by (leb (length s) n) refl where
   by true e = ap ofOctets (take-all n s (leb-true (length s) n e))
   by false e = front-enough s o n m (leb-false (length s) n e)
 
--- so its entries are the same, and with them all that is listed of it
+-- so its entries are the same, and with them all that is read and listed of it
 none-in : (a : Said) (s t : List ℕ) → ((k : ℕ) → a ≡ good k → ⊥) → entriesIn a s ≡ entriesIn a t
 none-in (good k) s t h = absurd (h k refl)
 none-in (refused q k) s t h = refl
@@ -92,6 +92,9 @@ enough-entries s o n m = by (leb (length s) n) refl where
       ap (λ (a : Said). entriesIn a (take n s)) (enough s o n m)
       ∙ none-in (ofOctets s) (take n s) s
       (λ k g. let b = octets-good s k g .bound in let x = octets-good s k g .exact in let l = leb-false (length s) n e in let z : ⊥ = omega arith in z)
+
+pub enough-read : (s : List ℕ) → Octets s → (n : ℕ) → enoughOctets ≤ n → (room : ℕ) → readOf (take n s) room ≡ readOf s room
+enough-read s o n m room = ap₂ (λ (a : Said) (es : List Entry). outcome a es room) (enough s o n m) (enough-entries s o n m)
 
 pub enough-listed : (s : List ℕ) → Octets s → (n : ℕ) → enoughOctets ≤ n → (room : ℕ) → eventsOf (take n s) room ≡ eventsOf s room
 enough-listed s o n m room =
