@@ -148,13 +148,15 @@ static uint64_t some_room(uint32_t least)
 
 static uint32_t some_body(void)
 {
-	switch (chance(5)) {
+	switch (chance(6)) {
 	case 0:
 		return between(58, 62);
 	case 1:
 		return between(1516, 1520);
 	case 2:
 		return between(60, 320);
+	case 3: /* about the shortest that is cut */
+		return between(116, 124);
 	default:
 		return between(60, 1518);
 	}

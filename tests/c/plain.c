@@ -166,7 +166,7 @@ int plain_preemptable(struct plain_sender *s, const uint8_t *body, size_t length
 	uint32_t n = (uint32_t)length - sent;
 	bool done = true;
 	if (s->active && asked && t <= BODY_MAX) {
-		uint32_t least = 64 * (1 + s->extra);
+		uint32_t least = 64 * (1 + s->extra) - CHECK;
 		if (t > least)
 			least = (uint32_t)t;
 		if (least + 64 <= n + CHECK) {

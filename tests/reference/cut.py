@@ -1,4 +1,4 @@
-"""Where a preemptable frame is cut: document 01, "Sending", the paragraph on the ask.
+"""Where a preemptable frame is cut: document 01, "Sending", the paragraph on the ask, with the m of document 02, (ii).
 
 The least lawful cut is looked for by trying 0, 1, 2 and so on. No formula for it is
 given here; the tests compare the search with one.
@@ -12,8 +12,8 @@ LEAST_REMAINDER = 64
 
 
 def least_part(extra):
-    """m: the least number of data octets that an mFrame with an mCRC carries."""
-    return 64 * (1 + extra)
+    """m: the least number of data octets that an mFrame with an mCRC carries; with the mCRC itself 64, 128, 192 or 256 octets."""
+    return 64 * (1 + extra) - 4
 
 
 def cut(frame_octets, sent, extra, asked, on_wire):

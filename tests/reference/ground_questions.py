@@ -6,6 +6,7 @@ are made with the reference.
 
 import crc
 from chance import Chance
+from cut import least_part
 from ground_format import (
     check_question,
     count_question,
@@ -42,15 +43,14 @@ def check_questions(chance):
 
 
 def marked_cuts():
-    """Document 01, "Marked examples"."""
+    """Document 01, "Marked examples", as document 02, (ii) has them."""
     return [
-        cut_question(128, 0, 0, 1, 0),
-        cut_question(127, 0, 0, 1, 0),
+        cut_question(124, 0, 0, 1, 0),
+        cut_question(123, 0, 0, 1, 0),
         cut_question(128, 0, 0, 1, 65),
         cut_question(1522, 0, 0, 1, 1458),
         cut_question(1522, 0, 0, 1, 1459),
-        cut_question(320, 0, 3, 1, 0),
-        cut_question(319, 0, 3, 1, 0),
+        cut_question(316, 0, 3, 1, 0),
     ]
 
 
@@ -58,16 +58,16 @@ def cuts_at_the_limits():
     """Both sides of each limit, for the four settings of extra and for some that only a hand makes."""
     questions = []
     for extra in (0, 1, 2, 3):
-        least = 64 * (1 + extra)
+        least = least_part(extra)
         for remaining in (least + 63, least + 64, least + 65, least + 66, 1522):
-            for sent in (0, 64, 701):
+            for sent in (0, 60, 701):
                 for on_wire in (0, least - 1, least, least + 1, remaining - 65, remaining - 64,
                                 remaining - 63, GREATEST):
                     questions.append(cut_question(remaining + sent, sent, extra, 1, on_wire))
     for extra in (4, 17, 128, 255):
-        least = 64 * (1 + extra)
+        least = least_part(extra)
         for remaining in (least + 63, least + 64, least + 65):
-            for sent in (0, 64):
+            for sent in (0, 60):
                 for on_wire in (0, least, least + 1, remaining - 64, remaining - 63):
                     questions.append(cut_question(remaining + sent, sent, extra, 1, on_wire))
     return questions
@@ -81,8 +81,10 @@ def cuts_of_the_longest_bodies():
     questions = []
     for body in (1517, 1518):
         frame_octets = body + 4
-        for sent in (0, 64, 1320, 1393, 1394, 1395, body - 60):
-            for on_wire in (0, 64, 65, 1457, 1458, 1459):
+        # The most that may have been sent so that a cut is still lawful.
+        most = frame_octets - 64 - least_part(0)
+        for sent in (0, 60, 1320, most - 1, most, most + 1, body - 60):
+            for on_wire in (0, least_part(0), least_part(0) + 1, 1457, 1458, 1459):
                 questions.append(cut_question(frame_octets, sent, 0, 1, on_wire))
     return questions
 
@@ -91,10 +93,11 @@ def cuts_with_too_much_sent():
     """Octets sent up to and beyond the frame: nothing can be cut off what does not remain."""
     questions = []
     for extra in (0, 3):
-        least = 64 * (1 + extra)
-        for frame_octets in (0, 64, 128, 1522):
-            for sent in (frame_octets, frame_octets + 1, frame_octets + 64,
-                         frame_octets + 64 + least, 2**32, 2**63, GREATEST - 128, GREATEST - 127,
+        least = least_part(extra)
+        for frame_octets in (0, 64, 124, 1522):
+            # The last two lines: where sent and the least part and 64, then sent and 64 alone, go round in 64 bits.
+            for sent in (frame_octets, frame_octets + 1, frame_octets + 64, frame_octets + 64 + least, 2**32, 2**63,
+                         GREATEST - 64 - least, GREATEST - 63 - least,
                          GREATEST - 63, GREATEST):
                 questions.append(cut_question(frame_octets, sent, extra, 1, 0))
     return questions
@@ -103,9 +106,9 @@ def cuts_with_too_much_sent():
 def cuts_without_ask():
     """No ask, whatever t says; and asks that are not written as 1."""
     questions = []
-    for frame_octets in (64, 128, 1522, GREATEST):
-        for sent in (0, 64):
-            for on_wire in (0, 64, GREATEST):
+    for frame_octets in (64, 124, 1522, GREATEST):
+        for sent in (0, 60):
+            for on_wire in (0, 60, GREATEST):
                 questions.append(cut_question(frame_octets, sent, 0, 0, on_wire))
     for asked in (2, 16, 128, 255):
         questions.append(cut_question(1522, 0, 1, asked, 300))
@@ -123,7 +126,7 @@ def cuts_of_huge_numbers():
     # t is small, so the answer is small however much remains.
     for frame_octets in (70_000, 2**16 + 10, 2**32 + 10, 2**63, GREATEST):
         for extra in (0, 3, 255):
-            least = 64 * (1 + extra)
+            least = least_part(extra)
             for on_wire in (0, least, least + 1):
                 questions.append(cut_question(frame_octets, 0, extra, 1, on_wire))
         questions.append(cut_question(frame_octets, 1394, 0, 1, 5000))
@@ -134,12 +137,12 @@ def cuts_of_huge_numbers():
     # Little remains, so that no n can be lawful from there on, however large t is.
     for frame_octets in (2**32 + 5, 2**63 + 5, GREATEST):
         for extra in (0, 3, 255):
-            least = 64 * (1 + extra)
+            least = least_part(extra)
             for remaining in (0, 63, 64, least, least + 63, least + 64, least + 65):
                 for on_wire in (0, least + 1, GREATEST - 63):
                     questions.append(cut_question(frame_octets, frame_octets - remaining, extra, 1, on_wire))
     # The frame is short, and t is beyond it by far.
-    for frame_octets in (0, 63, 64, 127, 128, 1522):
+    for frame_octets in (0, 63, 64, 123, 124, 1522):
         for on_wire in (2**8, 2**16, 2**32, 2**32 + 64, 2**63, GREATEST - 64, GREATEST - 63, GREATEST - 62,
                         GREATEST):
             questions.append(cut_question(frame_octets, 0, 0, 1, on_wire))

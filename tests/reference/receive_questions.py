@@ -407,7 +407,7 @@ def losses(script, chance):
     for lost in range(1, 6):
         for at in (0, 1, 2, 5):
             sender = exchange.Sender(next_frame_count=lost % 4)
-            mframes = sender.frame(chance.octets(124 + 64 * 8), 0)
+            mframes = sender.frame(chance.octets(120 + 60 * 8), 0)
             script.want(NOT_ASSEMBLING)
             for octets in mframes[:at] + mframes[at + lost:]:
                 script.give(octets)

@@ -9,6 +9,7 @@ from itertools import product
 
 import sending
 from chance import Chance
+from cut import least_part
 from send_format import (
     body_question,
     express_question,
@@ -103,16 +104,18 @@ def whole_mframes(script, chance):
 
 def asks_at_the_limits(frame_octets, sent, extra):
     """No ask, and every t next to a limit of the cut, each once."""
-    least = 64 * (1 + extra)
+    least = least_part(extra)
     remaining = frame_octets - sent
-    numbers = (0, 1, 63, 64, least - 1, least, least + 1, remaining - 65, remaining - 64, remaining - 63,
+    numbers = (0, 1, least_part(0) - 1, least_part(0), least - 1, least, least + 1, remaining - 65, remaining - 64, remaining - 63,
                remaining - 4, remaining, remaining + 1, 2**32, GREATEST)
     return [NO_ASK] + sorted({number for number in numbers if number >= 0})
 
 
 def first_mframes(script, chance):
     """Frames not yet begun: bodies about every limit, all four settings of extra, every ask about a limit."""
-    lengths = (60, 61, *range(119, 131), 187, 188, 189, 251, 252, 253, 315, 316, 317, 1517, 1518)
+    shortest_cut = [least_part(extra) + 60 for extra in range(4)]
+    lengths = (60, 61, *range(shortest_cut[0] - 5, shortest_cut[0] + 7),
+               *(length + more for length in shortest_cut[1:] for more in (-1, 0, 1)), 1517, 1518)
     for number, length in enumerate(lengths):
         script.set_body(chance.octets(length))
         for extra in range(4):
@@ -137,10 +140,10 @@ def first_mframes_not_active(script, chance):
 
 def continuations_at_the_limits(script, chance):
     """Frames in progress: octets sent from the least to the most, every ask about a limit."""
-    for length in (120, 121, 124, 184, 188, 190, 380, 1517, 1518):
+    for length in (120, 121, 124, 180, 184, 190, 380, 1517, 1518):
         script.set_body(chance.octets(length))
         for extra in range(4):
-            least = 64 * (1 + extra)
+            least = least_part(extra)
             # The most that may have been sent so that a cut is still lawful is length - 60 - m.
             sent_numbers = {60, 61, 64, length - 61 - least, length - 60 - least, length - 59 - least,
                             length - 61, length - 60}
@@ -271,18 +274,18 @@ def holds(script, chance):
 
 
 def long_chains(script, chance):
-    """Whole bodies in many fragments; with the least cuts 23 of them, so that the counts go round."""
+    """Whole bodies in many fragments; with the least cuts 25 of them, so that the counts go round."""
     script.set_record(sending.fresh(active=True))
-    for length in (1518, 1517, 700, 124, 188):
+    for length in (1518, 1517, 700, 120, 180):
         script.set_body(chance.octets(length))
         for extra in range(4):
             script.set_settings(extra=extra)
-            for ask in (0, 64 * (1 + extra) + 1):
+            for ask in (0, least_part(extra) + 1):
                 script.call_until_done(ask)
     # One octet more on the wire each time, from one octet before the least.
     script.set_settings(extra=0)
     script.set_body(chance.octets(1518))
-    ask = 63
+    ask = least_part(0) - 1
     while not script.call(ask):
         ask += 1
     # An ask need not be written as 1.

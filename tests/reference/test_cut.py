@@ -1,4 +1,4 @@
-"""Tests of cut.py: document 01, "Sending", and the cuts among its marked examples.
+"""Tests of cut.py: document 01, "Sending", and the marked cuts, those of document 02, (ii) among them.
 
 The search is compared with a formula that the search itself does not use.
 """
@@ -13,34 +13,33 @@ GREATEST = 2**64 - 1
 
 def by_formula(frame_octets, sent, extra, on_wire):
     """The greater of t and m is the only candidate: if it leaves too little, everything above does too."""
-    candidate = max(on_wire, 64 + 64 * extra)
+    candidate = max(on_wire, 60 + 64 * extra)
     return candidate if sent + candidate + 64 <= frame_octets else WHOLE
 
 
 class MarkedExamples(unittest.TestCase):
     def test_all(self):
         for frame_octets, extra, on_wire, expected in (
-            (128, 0, 0, 64),
-            (127, 0, 0, WHOLE),
+            (124, 0, 0, 60),
+            (123, 0, 0, WHOLE),
             (128, 0, 65, WHOLE),
             (1522, 0, 1458, 1458),
             (1522, 0, 1459, WHOLE),
-            (320, 3, 0, 256),
-            (319, 3, 0, WHOLE),
+            (316, 3, 0, 252),
         ):
             with self.subTest(frame_octets=frame_octets, extra=extra, on_wire=on_wire):
                 self.assertEqual(cut(frame_octets, 0, extra, True, on_wire), expected)
 
 
 class ShortFrames(unittest.TestCase):
-    def test_no_frame_under_128_octets_is_cut(self):
-        for frame_octets in range(128):
+    def test_no_frame_under_124_octets_is_cut(self):
+        for frame_octets in range(124):
             for extra in range(4):
                 for on_wire in range(0, 131):
                     self.assertIs(cut(frame_octets, 0, extra, True, on_wire), WHOLE)
 
     def test_each_setting_of_extra_has_its_own_least_frame(self):
-        for extra, least_frame in ((0, 128), (1, 192), (2, 256), (3, 320), (255, 16_448)):
+        for extra, least_frame in ((0, 124), (1, 188), (2, 252), (3, 316), (255, 16_444)):
             self.assertIs(cut(least_frame - 1, 0, extra, True, 0), WHOLE)
             self.assertEqual(cut(least_frame, 0, extra, True, 0), least_frame - 64)
 
@@ -48,7 +47,7 @@ class ShortFrames(unittest.TestCase):
 class Limits(unittest.TestCase):
     def test_near_every_limit(self):
         for extra in range(4):
-            least = 64 * (1 + extra)
+            least = 60 + 64 * extra
             for sent in (0, 60, 64, 700):
                 for remaining in (0, 63, 64, 65, *range(least + 60, least + 69), 1522):
                     for on_wire in {0, 1, *range(least - 3, least + 4),
@@ -70,16 +69,16 @@ class Limits(unittest.TestCase):
         self.assertGreater(min(outcomes.values()), 200)
 
     def test_one_octet_more_on_the_wire_moves_the_cut_by_one_or_ends_it(self):
-        for on_wire in range(64, 1458):
+        for on_wire in range(60, 1459):
             self.assertEqual(cut(1522, 0, 0, True, on_wire), on_wire)
         for on_wire in range(1459, 1530):
             self.assertIs(cut(1522, 0, 0, True, on_wire), WHOLE)
 
     def test_what_remains_can_be_sent(self):
-        # A cut leaves a part that is a lawful mFrame itself: 60 body octets or more beside the FCS.
-        for body in range(124, 400):
+        # What goes and what is left are lawful mFrames themselves: 60 body octets or more beside the check.
+        for body in range(120, 400):
             carried = cut(body + 4, 0, 0, True, 0)
-            self.assertGreaterEqual(carried, 64)
+            self.assertGreaterEqual(carried, 60)
             self.assertGreaterEqual(body - carried, 60)
 
 
@@ -98,11 +97,11 @@ class ExtremeNumbers(unittest.TestCase):
                 self.assertIs(cut(frame_octets, 0, 0, True, on_wire), WHOLE)
 
     def test_huge_frames(self):
-        self.assertEqual(cut(GREATEST, 0, 0, True, 0), 64)
-        self.assertEqual(cut(GREATEST, 0, 255, True, 5), 16_384)
-        self.assertEqual(cut(GREATEST, GREATEST - 128, 0, True, 0), 64)
-        self.assertIs(cut(GREATEST, GREATEST - 127, 0, True, 0), WHOLE)
-        self.assertIs(cut(GREATEST, GREATEST - 128, 0, True, GREATEST), WHOLE)
+        self.assertEqual(cut(GREATEST, 0, 0, True, 0), 60)
+        self.assertEqual(cut(GREATEST, 0, 255, True, 5), 16_380)
+        self.assertEqual(cut(GREATEST, GREATEST - 124, 0, True, 0), 60)
+        self.assertIs(cut(GREATEST, GREATEST - 123, 0, True, 0), WHOLE)
+        self.assertIs(cut(GREATEST, GREATEST - 124, 0, True, GREATEST), WHOLE)
 
     def test_more_sent_than_the_frame_has(self):
         for frame_octets in (0, 64, 128, 1522):

@@ -46,9 +46,9 @@ class Answers(unittest.TestCase):
 
     def test_cut(self):
         sent_none = "0000000000000000"
-        self.assertEqual(answer("04 8000000000000000" + sent_none + "00 01 0000000000000000"), "cut 64\n")
+        self.assertEqual(answer("04 8000000000000000" + sent_none + "00 01 0000000000000000"), "cut 60\n")
         self.assertEqual(answer("04 8000000000000000" + sent_none + "00 00 0000000000000000"), "cut whole\n")
-        self.assertEqual(answer("04 3F01000000000000" + sent_none + "03 01 0000000000000000"), "cut whole\n")
+        self.assertEqual(answer("04 3B01000000000000" + sent_none + "03 01 0000000000000000"), "cut whole\n")
         self.assertEqual(answer("04 F205000000000000" + sent_none + "00 FF B205000000000000"), "cut 1458\n")
         self.assertEqual(answer("04 F205000000000000" + sent_none + "00 FF FFFFFFFFFFFFFFFF"), "cut whole\n")
 
@@ -95,8 +95,8 @@ class Questions(unittest.TestCase):
             self.assertEqual(asked, list(range(256)))
 
     def test_the_marked_cuts_come_first(self):
-        self.assertEqual(self.lines("cut")[:7], ["cut 64", "cut whole", "cut whole", "cut 1458", "cut whole",
-                                                 "cut 256", "cut whole"])
+        self.assertEqual(self.lines("cut")[:6], ["cut 60", "cut whole", "cut whole", "cut 1458", "cut whole",
+                                                 "cut 252"])
 
     def test_every_outcome_is_met_often(self):
         outcomes = Counter()

@@ -142,7 +142,7 @@ class SecondPlay:
             name = self.names
             self.names += 1
         # Where a cut leaves less than 64 octets, the FCS among them, there is none.
-        end = sent + max(t, 64 + 64 * self.extra)
+        end = sent + max(t, 60 + 64 * self.extra)
         done = not asked or len(body) + 4 - end < 64
         end = len(body) if done else end
         lost = self.draw(3) == 0 and self.run < 3
@@ -224,7 +224,7 @@ class OneLink(unittest.TestCase):
         played.set_extra(1)
         played.preemptable(body, 0)
         self.assertEqual(link_answers.lines(played), [
-            f"0 130 {check(body)}", "3 0", "4 0", "2 64", f"0 60 {check(body[:60])}", f"1 130 {check(body)}",
+            f"0 130 {check(body)}", "3 0", "4 0", "2 60", f"0 60 {check(body[:60])}", f"1 130 {check(body)}",
             f"1 130 {check(body)}", "end 2 2 2 2 0 2 0 0 1 1"])
 
     def test_a_held_call_has_no_fate(self):
@@ -253,7 +253,7 @@ class OneLink(unittest.TestCase):
         played = self.linked("....")
         for ask in (None, 0, 0, 0):
             played.preemptable(body, ask)
-        self.assertEqual(link_answers.lines(played)[1:], ["2 64", "2 128", "2 192", "end 1 1 1 0 0 3 0 0 0 2"])
+        self.assertEqual(link_answers.lines(played)[1:], ["2 60", "2 120", "2 180", "end 1 1 1 0 0 3 0 0 0 2"])
 
 
 class RunsOfFour(unittest.TestCase):
@@ -378,9 +378,9 @@ class StoredGames(unittest.TestCase):
             self.assertEqual(link_answers.lines(played), SecondPlay(*entry).lines, entry)
 
     def test_frames(self):
-        self.assertEqual(sum(frame.ended() for frame in self.frames), 5143)
-        self.assertEqual(sum(frame.delivered() for frame in self.frames), 2308)
-        self.assertEqual(sum(len(delivered(played, 1)) for played in self.games), 2308)
+        self.assertEqual(sum(frame.ended() for frame in self.frames), 5153)
+        self.assertEqual(sum(frame.delivered() for frame in self.frames), 2323)
+        self.assertEqual(sum(len(delivered(played, 1)) for played in self.games), 2323)
         # The shortest bodies and the longest are among them.
         lengths = {len(frame.body) for frame in self.frames}
         self.assertEqual((min(lengths), max(lengths)), (60, 1518))
@@ -399,7 +399,7 @@ class StoredGames(unittest.TestCase):
     def test_pieces(self):
         whole = [len(frame.fates) for frame in self.frames if frame.delivered()]
         # More than four; of six the fragment count is 0 for the second time.
-        self.assertEqual(sum(pieces > 4 for pieces in whole), 68)
+        self.assertEqual(sum(pieces > 4 for pieces in whole), 72)
         self.assertGreater(sum(pieces > 5 for pieces in whole), 10)
         self.assertEqual(max(len(frame.fates) for frame in self.frames), 10)
 

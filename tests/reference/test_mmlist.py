@@ -39,7 +39,7 @@ class Listing(unittest.TestCase):
         octets = trace.written([first, mframe.express(bytes(61)), second, third, mframe.verify(), mframe.respond(),
                                 second, first, first])
         self.assertEqual(listing(octets).splitlines(), [
-            "mm 1", "1 2 64", "2 0 61", "3 2 128", "4 1 200", "5 3 0", "6 4 0", "7 22 0", "8 2 64", "9 2 64",
+            "mm 1", "1 2 60", "2 0 61", "3 2 120", "4 1 200", "5 3 0", "6 4 0", "7 22 0", "8 2 60", "9 2 60",
             "end 1 1 1 2",
         ])
 

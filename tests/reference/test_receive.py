@@ -104,7 +104,7 @@ class Questions(unittest.TestCase):
     def test_a_body_that_nobody_sent(self):
         # The last history: a start is kept, and a part that is not its next one completes it.
         kept, completed = (line.split() for line in self.answers[-2:])
-        self.assertEqual((kept[:2], completed[:2]), (["2", "64"], ["1", "124"]))
+        self.assertEqual((kept[:2], completed[:2]), (["2", "60"], ["1", "120"]))
         expected = memory(1518, 77, witness.body_never_sent())
         self.assertEqual(completed[-4:], [check(expected), "0", "0", "00000000"])
 

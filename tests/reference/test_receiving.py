@@ -316,7 +316,7 @@ class EasyToGetWrong(Case):
         self.assertEqual(answers, [2, 23, 22, 22, 22, 22])
 
     def test_four_lost_fragments_bring_the_count_back_but_not_the_check(self):
-        mframes = exchange.Sender().frame(Chance(74).octets(64 * 8), 0)
+        mframes = exchange.Sender().frame(Chance(74).octets(60 * 8), 0)
         record, answers = receiving.fresh(), []
         for octets in mframes[:2] + mframes[6:]:
             answer, record = receiving.receive(memory_of(), record, octets)
@@ -324,19 +324,19 @@ class EasyToGetWrong(Case):
         self.assertEqual(answers, [2, 2, 25, 22])
 
     def test_five_continuations(self):
-        body = Chance(75).octets(64 * 5 + 60)
+        body = Chance(75).octets(60 * 6)
         mframes = exchange.Sender(next_frame_count=2).frame(body, 0)
         memory, record = memory_of(), receiving.fresh()
         for number, octets in enumerate(mframes[:-1]):
             answer, record = receiving.receive(memory, record, octets)
-            kept = 64 * (number + 1)
+            kept = 60 * (number + 1)
             self.assertEqual(answer, Answer(2, kept))
             self.assertEqual(record.assembly, Assembly(True, 2, number % 4, kept, register_of(body[:kept])))
             # Octets past those kept are never written.
             self.assertEqual(memory, body[:kept] + memory_of()[kept:])
         answer, record = receiving.receive(memory, record, mframes[-1])
-        self.assertEqual((answer, record), (Answer(1, 380), ReceivingRecord(NOT_ASSEMBLING, Counters(0, 0, 1, 5))))
-        self.assertEqual(memory, body + memory_of()[380:])
+        self.assertEqual((answer, record), (Answer(1, 360), ReceivingRecord(NOT_ASSEMBLING, Counters(0, 0, 1, 5))))
+        self.assertEqual(memory, body + memory_of()[360:])
 
 
 def kind_of(octets):

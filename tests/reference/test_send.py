@@ -46,11 +46,11 @@ class Answers(unittest.TestCase):
         self.assertEqual(answer(SET_BODY + SET_RECORD + "07 01 01 03"), "")
 
     def test_a_frame_in_two_parts(self):
-        first = bytes.fromhex("555555555555557F") + BODY[:64] + mcrc(BODY[:64])
-        second = bytes.fromhex("5555555555559EE6") + BODY[64:] + fcs(BODY)
+        first = bytes.fromhex("555555555555557F") + BODY[:60] + mcrc(BODY[:60])
+        second = bytes.fromhex("5555555555559EE6") + BODY[60:] + fcs(BODY)
         self.assertEqual(answer(SET_BODY + SET_RECORD + ASK_0 + NO_ASK).splitlines(), [
-            f"preemptable 76 0 {check(memory(1530, 7, first))} 1 0 0 3 130 64 0",
-            f"preemptable 78 1 {check(memory(1530, 7, second))} 1 0 0 3 0 0 0",
+            f"preemptable 72 0 {check(memory(1530, 7, first))} 1 0 0 3 130 60 0",
+            f"preemptable 82 1 {check(memory(1530, 7, second))} 1 0 0 3 0 0 0",
         ])
 
     def test_a_refusal_hands_the_record_back(self):
@@ -74,7 +74,7 @@ class Answers(unittest.TestCase):
             self.assertTrue(answer(SET_BODY + SET_RECORD + call).startswith("preemptable 142 1 "))
         # Anything but 0 is an ask.
         other_ask = "06 80 0000000000000000 FA05 07"
-        self.assertTrue(answer(SET_BODY + SET_RECORD + other_ask).startswith("preemptable 76 0 "))
+        self.assertTrue(answer(SET_BODY + SET_RECORD + other_ask).startswith("preemptable 72 0 "))
 
     def test_questions_that_break_the_layout(self):
         for broken in ("00", "08", "02 00", "05 0200 00", "04 02 00 00 02 0000000000000000 0000000000000000 00",

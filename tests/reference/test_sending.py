@@ -97,10 +97,10 @@ class WholeMFrames(Case):
 
 class FirstMFrames(Case):
     def test_marked_cuts(self):
-        # Document 01, "Marked examples": L, extra, t and the octets carried, None for the whole frame.
+        # Document 01, "Marked examples", as document 02, (ii) has them: L, extra, t and the octets carried, None for the whole frame.
         for frame_octets, extra, ask, carried in (
-            (128, 0, 0, 64), (127, 0, 0, None), (128, 0, 65, None), (1522, 0, 1458, 1458),
-            (1522, 0, 1459, None), (320, 3, 0, 256), (319, 3, 0, None),
+            (124, 0, 0, 60), (123, 0, 0, None), (128, 0, 65, None), (1522, 0, 1458, 1458),
+            (1522, 0, 1459, None), (316, 3, 0, 252),
         ):
             body = Chance(frame_octets).octets(frame_octets - 4)
             header = bytes.fromhex(STARTS[2])
@@ -138,18 +138,18 @@ class FirstMFrames(Case):
 class Continuations(Case):
     def test_a_frame_in_seven_parts(self):
         # The first continuation is numbered 0, and the fifth is 0 again.
-        body = Chance(45).octets(64 * 6 + 60)
+        body = Chance(45).octets(60 * 7)
         record = sender(next_frame_count=3)
-        done, record = self.send(record, body, 0, bytes.fromhex(STARTS[3]) + body[:64] + mcrc(body[:64]))
+        done, record = self.send(record, body, 0, bytes.fromhex(STARTS[3]) + body[:60] + mcrc(body[:60]))
         for number, code in enumerate(("E6", "4C", "7F", "B3", "E6")):
             self.assertFalse(done)
-            self.assertEqual(record, sender(length=len(body), sent=64 * (number + 1), next_fragment_count=number % 4))
-            sent = 64 * (number + 1)
+            self.assertEqual(record, sender(length=len(body), sent=60 * (number + 1), next_fragment_count=number % 4))
+            sent = 60 * (number + 1)
             # The check is over all of the frame so far, not over this part.
             done, record = self.send(record, body, 0, bytes.fromhex(CONTINUATIONS[3] + code)
-                                     + body[sent:sent + 64] + mcrc(body[:sent + 64]))
+                                     + body[sent:sent + 60] + mcrc(body[:sent + 60]))
         done, record = self.send(record, body, 0,
-                                 bytes.fromhex(CONTINUATIONS[3] + "4C") + body[384:] + fcs(body))
+                                 bytes.fromhex(CONTINUATIONS[3] + "4C") + body[360:] + fcs(body))
         self.assertEqual((done, record), (True, sender()))
 
     def test_every_pair_of_counts(self):
@@ -191,9 +191,9 @@ class Continuations(Case):
         body = Chance(50).octets(1000)
         _, record = sending.preemptable(memory_of(1530), sender(), body, 0)
         _, record = sending.preemptable(memory_of(1530), replace(record, extra=3), body, 0)
-        self.assertEqual(record.sent, 64 + 256)
+        self.assertEqual(record.sent, 60 + 252)
         _, record = sending.preemptable(memory_of(1530), replace(record, extra=1), body, 0)
-        self.assertEqual(record.sent, 64 + 256 + 128)
+        self.assertEqual(record.sent, 60 + 252 + 124)
 
     def test_a_refusal_in_the_middle_changes_nothing(self):
         body = Chance(51).octets(400)
@@ -201,7 +201,7 @@ class Continuations(Case):
         self.assert_refused(34, replace(record, hold=True), body, 0)
         self.assert_refused(33, record, body[:-1], 0)
         self.assert_refused(30, record, body, 0, room=1529)
-        done, _ = self.send(record, body, 0, bytes.fromhex(CONTINUATIONS[0] + "E6") + body[64:128] + mcrc(body[:128]))
+        done, _ = self.send(record, body, 0, bytes.fromhex(CONTINUATIONS[0] + "E6") + body[60:120] + mcrc(body[:120]))
         self.assertFalse(done)
 
 
@@ -326,7 +326,8 @@ class WholeFrames(Case):
                 self.assertTrue(72 <= len(mframe) <= 1530)
                 self.assertTrue(sending.in_range(record))
                 if not done:
-                    self.assertGreaterEqual(len(mframe) - 12, 64 * (1 + record.extra))
+                    # With its mCRC.
+                    self.assertGreaterEqual(len(mframe) - 8, 64 * (1 + record.extra))
                     self.assertGreaterEqual(len(mframe) - 12, 0 if ask is None else ask)
             self.assertEqual(data, body)
             self.assertEqual((record.length, record.sent, record.next_fragment_count), (0, 0, 0))

@@ -107,13 +107,13 @@ class Traces(unittest.TestCase):
             2, 0, 2, 0, 0, 2, 1,
             2, 0, 2, 23, 22, 22,
             2, 2, 1,
-            15, 22, 22, 22,
-            2, 17, 23, 22,
+            15, 22, 22, 22, 22,
+            2, 17, 23, 22, 22,
             2, 25, 22,
             2, 14, 1, 20, 0, 16, 12,
             21, 3, 4, 2, 2, 1,
         ])
-        self.assertEqual(self.listings["row"][-1], "end 4 10 3 8")
+        self.assertEqual(self.listings["row"][-1], "end 4 12 3 8")
 
     def test_answers(self):
         # Typed by hand, each beside the mFrame it belongs to.
@@ -129,7 +129,7 @@ class Traces(unittest.TestCase):
         ])
         self.assertEqual(set(self.answers("answers")), {*range(5), *range(12, 18), *range(20, 26)})
         # The fragment that waited through all refused lengths is the first of a whole frame still.
-        self.assertEqual(self.listings["answers"][329:331], ["329 2 128", "330 1 200"])
+        self.assertEqual(self.listings["answers"][329:331], ["329 2 120", "330 1 200"])
 
     def test_answers_that_one_rule_decides(self):
         # Typed by hand, as above. V and R of seven lengths; drops that meet; 1,518 and 1,519 octets; checks begun anew.
@@ -165,7 +165,7 @@ class Traces(unittest.TestCase):
     def test_refused_records(self):
         for number in (50, 51, 52, 53):
             self.assertEqual(self.listings[f"refused_{number}"],
-                             ["mm 1", "1 2 64", "2 2 128", "3 1 190", "4 22 0", "5 2 64", "6 2 64",
+                             ["mm 1", "1 2 60", "2 2 120", "3 1 190", "4 22 0", "5 2 60", "6 2 60",
                               f"stop 7 {number}", "end 1 1 1 2"])
 
     def test_empty(self):

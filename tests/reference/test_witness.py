@@ -60,11 +60,11 @@ class Witness(unittest.TestCase):
         mframes = witness.mframes()
         self.assertEqual([octets[6:8].hex() for octets in mframes], ["55e6", "61e6", "614c", "617f", "61b3", "61e6"])
         self.assertEqual([octets[8:-4] for octets in mframes],
-                         [body[:64], body[64:128], body[128:192], body[192:256], body[256:320], body[320:]])
-        self.assertEqual(len(body), 380)
-        self.assertEqual(register_of(body[:64]), register_of(body[:320]))
+                         [body[:60], body[60:120], body[120:180], body[180:240], body[240:300], body[300:]])
+        self.assertEqual(len(body), 360)
+        self.assertEqual(register_of(body[:60]), register_of(body[:300]))
         # In between it does not come back.
-        self.assertEqual(len({register_of(body[:sent]) for sent in (64, 128, 192, 256, 320, 380)}), 5)
+        self.assertEqual(len({register_of(body[:sent]) for sent in (60, 120, 180, 240, 300, 360)}), 5)
 
     def test_with_nothing_lost(self):
         self.assertEqual(received(witness.mframes()), ([2, 2, 2, 2, 2, 1], [witness.body()]))
@@ -73,7 +73,7 @@ class Witness(unittest.TestCase):
         body = witness.body()
         numbers, delivered = received(witness.arriving())
         self.assertEqual(numbers, [2, 1])
-        self.assertEqual(delivered, [body[:64] + body[320:]])
+        self.assertEqual(delivered, [body[:60] + body[300:]])
         self.assertEqual(delivered, [witness.body_never_sent()])
         self.assertNotEqual(delivered, [body])
 

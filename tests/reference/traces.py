@@ -174,7 +174,7 @@ def checks_begun_anew(chance):
     """Continuations whose check is right over their own data, or from an earlier fragment on, and not over the frame: 25."""
     body = chance.octets(200)
     first, second, third = exchange.Sender().frame(body, 0)
-    own, later = body[64:128], body[128:]
+    own, later = body[60:120], body[120:]
     mframes = []
     for check in (crc.fcs, crc.mcrc):
         mframes += [first, mframe.continuation(0, 0, own, check(own)),
@@ -202,9 +202,9 @@ def small_parts(chance, count):
         elif which < 4:
             mframes.append(mframe.express(chance.octets(chance.between(60, 62))))
         elif which < 11:
-            # Parts of 64 octets each, and a little over 60 in the last.
+            # Parts of 60 octets each, seldom some more, and a little over 60 in the last.
             pieces = chance.below(4) if chance.below(30) else chance.between(4, 22)
-            body = chance.octets(min(1518, 64 * pieces + chance.between(60, 64)))
+            body = chance.octets(min(1518, 60 * pieces + chance.between(60, 64)))
             for octets in sender.frame(body, chance.below(65)):
                 mframes.append(octets)
                 # A press breaks in where a fragment ends.

@@ -18,12 +18,13 @@ import crc
 import exchange
 import mframe
 from chance import Chance
+from cut import least_part
 
 SEED = 8033
 
 # With an ask of 0 and extra 0 every part but the last is as short as a part can be.
 ASK = 0
-PART = 64
+PART = least_part(0)
 LAST_PART = mframe.LEAST_BODY
 
 LOST_PARTS = 4

@@ -81,7 +81,7 @@ cut-room L s m (At t) n e =
     let w : Lawful L s m t n = subst (λ (p : Part). Least L s m t p) e (least-lawful L s m t) .0 in
     (omega arith, omega arith)
 
--- "So no frame under 128 octets is cut"
-pub short-whole : (L s extra : ℕ) (ask : Ask) → L < 128 → partOf L s (minimum extra) ask ≡ Whole
+-- document 01's "So no frame under 128 octets is cut", of which the m of document 02, (ii) makes 124
+pub short-whole : (L s extra : ℕ) (ask : Ask) → L < 124 → partOf L s (minimum extra) ask ≡ Whole
 short-whole L s extra None h = unasked L s (minimum extra)
 short-whole L s extra (At t) h = cut-none L s (minimum extra) t (omega arith)

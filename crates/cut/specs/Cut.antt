@@ -1,4 +1,4 @@
--- The cut of document 01, "Sending", with L, s, m, t and n as the paper has them. Assumes nothing.
+-- The cut of document 01, "Sending", with L, s, t and n as the paper has them, and m as document 02, (ii) has it. Assumes nothing.
 use mathlib.Core.Bool.{Bool, cond, _&&_}
 use Prim.Native.Nat.{ℕ, zero, suc, _+_, _-_, _*_}
 use lib.Dec.{leb}
@@ -7,9 +7,9 @@ use Rattle.cut.specs.declared.Ask.the-variants.{None, At}
 use Rattle.cut.specs.declared.Part.{Part}
 use Rattle.cut.specs.declared.Part.the-variants.{Whole, Cut}
 
--- m = 64 × (1 + extra)
+-- "IEEE 802.3br counts the mCRC in that minimum, so m becomes 64 × (1 + extra) − 4"
 abbrev pub minimum : ℕ → ℕ
-minimum extra = 64 * (1 + extra)
+minimum extra = 64 * (1 + extra) - 4
 
 -- "A lawful cut is a number n with n ≥ t, n ≥ m and L − s − n ≥ 64"
 unfoldable pub lawful : ℕ → ℕ → ℕ → ℕ → ℕ → Bool

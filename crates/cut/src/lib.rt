@@ -1,4 +1,4 @@
-// Where an mFrame is cut (document 01, "Sending").
+// Where an mFrame is cut (document 01, "Sending"; document 02, (ii)).
 ghost use mathlib.Core.Path.{_≡_};
 ghost use Rattle.cut.specs.Cut.{partOf, minimum};
 
@@ -17,11 +17,11 @@ pub enum Part {
 // Of the frame, its FCS counted, this many octets at least are left behind a cut.
 const LEFT: usize = 64;
 
-// The least number of data octets before a cut.
+// The least number of data octets before a cut: with the four of the mCRC behind them they make 64, 128, 192 or 256.
 fn least(extra: u8) -> usize
     ensures { λ m. ⌜ m ≡ minimum extra ⌝ }
 {
-    64 * (1 + extra as usize)
+    64 * (1 + extra as usize) - 4
 }
 
 // The part that goes now of a frame of so many octets, its FCS counted, of which some are sent. A lawful cut needs both the ask and the

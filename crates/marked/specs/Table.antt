@@ -1,4 +1,5 @@
--- Document 01, "Marked examples": what is asked of the definitions that the contracts cite, and what the paper says.
+-- Document 01, "Marked examples", with the cuts that document 02, (ii) puts in place of four: what is asked of the definitions that the
+-- contracts cite, and what the paper says.
 -- Assumes nothing.
 use mathlib.Core.List.{List, [], _∷_}
 use Prim.Native.Nat.{ℕ}
@@ -43,13 +44,12 @@ abbrev pub table : List Example
 table =
     (fcs nine ⇒ octets (0x26 ∷ 0x39 ∷ 0xF4 ∷ 0xCB ∷ []))
     ∷ (mcrc nine ⇒ octets (0x26 ∷ 0x39 ∷ 0x0B ∷ 0x34 ∷ []))
-    ∷ (cut 0 128 0 ⇒ part (Cut 64))
-    ∷ (cut 0 127 0 ⇒ part Whole)
+    ∷ (cut 0 124 0 ⇒ part (Cut 60))
+    ∷ (cut 0 123 0 ⇒ part Whole)
     ∷ (cut 0 128 65 ⇒ part Whole)
     ∷ (cut 0 1522 1458 ⇒ part (Cut 1458))
     ∷ (cut 0 1522 1459 ⇒ part Whole)
-    ∷ (cut 3 320 0 ⇒ part (Cut 256))
-    ∷ (cut 3 319 0 ⇒ part Whole)
+    ∷ (cut 3 316 0 ⇒ part (Cut 252))
     ∷ (bits 0xAD ⇒ number 4)
     ∷ (bits 0x55 ⇒ number 1)
     ∷ (bits 0xD4 ⇒ number 1)
