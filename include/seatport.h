@@ -1,9 +1,9 @@
 /* seatport.h: IEEE 802.3br frame preemption in software, for a port that has none in its hardware.
  *
- * Each function is one call of document 01, "The seat port and its rules", or, on the hall's schedule, of document 02, (i).
- * It works on memory that the caller lends for the length of the call and keeps nothing: no allocation, no statics, no
- * working memory but some stack. Several ports, or calls from several threads, need nothing but records and buffers of
- * their own.
+ * Each function is one call of document 01, "The seat port and its rules", or, on the hall's schedule, of document 02, (i);
+ * where a frame is cut is told by document 02, (ii). It works on memory that the caller lends for the length of the call
+ * and keeps nothing: no allocation, no statics, no working memory but some stack. Several ports, or calls from several
+ * threads, need nothing but records and buffers of their own.
  *
  * +----------------------------------------------------------------------------------------------------------------------+
  * | Fragments, V and R are understood only by ports built from this code. Their check octets, the mCRC, are those of     |
@@ -38,9 +38,13 @@
 
 /* The version. The first number goes up where what was written for the version before may have to change: a name, a number,
  * a field, a function or what it does. The second goes up where something was added. An archive does not say which header
- * it was made with: keep the two together. */
-#define SEATPORT_VERSION_MAJOR 1
-#define SEATPORT_VERSION_MINOR 1 /* 1.1: the hall's schedule */
+ * it was made with: keep the two together.
+ *   1.1  the hall's schedule
+ *   2.0  the earliest cut lies four octets sooner than in 1, since the mCRC counts (extra, below). With extra 0, bodies of
+ *        120 to 123 octets can now be cut, the shortest mFrame that does not end its frame has 72 octets (76 in 1), and the
+ *        longest body can go in 25 mFrames (23 in 1). Receiving is as in 1: ports of both versions understand each other. */
+#define SEATPORT_VERSION_MAJOR 2
+#define SEATPORT_VERSION_MINOR 0
 
 /* Fresh records, in C and in C++. */
 #define SEATPORT_SENDER_FRESH { 0, 0, 0, 0, 0, 0, 0 }
@@ -87,7 +91,10 @@ struct seatport_sender {
 	uint32_t active;   /* preemption is on: link verified, or not asked for */
 	uint32_t hold;     /* no preemptable mFrame may begin, of a frame in progress neither; only where active. Set it
 			    * between calls: seatport_preemptable writes the record back */
-	uint32_t extra;    /* 0 to 3: at least 64 * (1 + extra) data octets go before a cut, and 64 with the FCS behind it */
+	uint32_t extra;    /* 0 to 3: at least 64 * (1 + extra) - 4 data octets go before a cut, 64 * (1 + extra) with the mCRC,
+			    * and at least 64 are left behind it, the FCS counted. So a body under 64 * (2 + extra) - 8 octets
+			    * is never cut, with extra 0 one under 120. It is what the other end asks for (addFragSize in
+			    * IEEE 802.3br) */
 	uint32_t next;     /* 0 to 3: frame count of the next preemptable frame */
 	uint32_t length;   /* of the frame in progress: its body's length, or 0 */
 	uint32_t sent;     /* its octets sent */

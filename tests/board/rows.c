@@ -113,58 +113,58 @@ static void damaged_delimiter(void)
 	mframe[7] ^= 1;
 }
 
-/* The next mFrame of the photograph, asked to be cut as soon as may be after 64 * (1 + extra) octets, or whole. */
-static void next_mframe(uint32_t extra, bool asked)
+/* The next mFrame of the photograph: so many of its octets, or as few as may be where these are fewer; with SEATPORT_NO_ASK
+ * all that is left. */
+static void next_mframe(uint64_t octets)
 {
 	struct plain_written w;
-	sender_before.extra = extra;
-	plain_preemptable(&sender_before, photograph, PHOTOGRAPH, asked, 0, mframe, sizeof mframe, &w);
+	plain_preemptable(&sender_before, photograph, PHOTOGRAPH, octets != SEATPORT_NO_ASK, octets, mframe, sizeof mframe, &w);
 	length = w.length;
 }
 
-static void start(uint32_t extra, bool asked)
+static void start(uint64_t octets)
 {
 	clear();
-	next_mframe(extra, asked);
+	next_mframe(octets);
 }
 
 static void start_64(void)
 {
-	start(0, true);
+	start(64);
 }
 
 static void start_256(void)
 {
-	start(3, true);
+	start(256);
 }
 
 static void start_1518(void)
 {
-	start(0, false);
+	start(SEATPORT_NO_ASK);
 }
 
-/* Behind a start of 64 octets. */
-static void continuation(uint32_t extra, bool asked)
+/* Behind the shortest start. */
+static void continuation(uint64_t octets)
 {
-	start_64();
+	start(0);
 	plain_receive(&receiver_before, mframe, length, plain_memory, sizeof plain_memory, &plain_detail);
 	memcpy(port_memory, plain_memory, sizeof port_memory);
-	next_mframe(extra, asked);
+	next_mframe(octets);
 }
 
 static void continuation_64(void)
 {
-	continuation(0, true);
+	continuation(64);
 }
 
 static void continuation_256(void)
 {
-	continuation(3, true);
+	continuation(256);
 }
 
-static void continuation_1454(void)
+static void continuation_1458(void)
 {
-	continuation(0, false);
+	continuation(SEATPORT_NO_ASK);
 }
 
 /* Sending */
@@ -218,6 +218,31 @@ static void photograph_cut(void)
 {
 	clear();
 	ask = CUT;
+}
+
+/* The next mFrame and all behind it, each asked to make way as soon as may be. */
+
+static void port_sends_all(void)
+{
+	memcpy(&port_sender, &sender_before, sizeof port_sender);
+	do
+		port_answer = seatport_preemptable(&port_sender, body, body_length, ask, port_memory, sizeof port_memory, &port_written);
+	while (port_answer == 0 && !port_written.done);
+}
+
+static void plain_sends_all(void)
+{
+	memcpy(&plain_sender, &sender_before, sizeof plain_sender);
+	do
+		plain_answer = (uint32_t)plain_preemptable(&plain_sender, body, body_length, true, ask, plain_memory,
+							   sizeof plain_memory, &plain_written);
+	while (plain_answer == 0 && !plain_written.done);
+}
+
+static void photograph_asked(void)
+{
+	clear();
+	ask = 0;
 }
 
 static void photograph_rest(void)
@@ -280,7 +305,7 @@ const struct row rows[] = {
 	{ "start of 1,518 received", PHOTOGRAPH, start_1518, no_receiving, port_receives, plain_receives },
 	{ "continuation of 64 received", 64, continuation_64, no_receiving, port_receives, plain_receives },
 	{ "continuation of 256 received", 256, continuation_256, no_receiving, port_receives, plain_receives },
-	{ "continuation of 1,454 received", 1454, continuation_1454, no_receiving, port_receives, plain_receives },
+	{ "continuation of 1,458 received", 1458, continuation_1458, no_receiving, port_receives, plain_receives },
 	{ "damaged delimiter received", 0, damaged_delimiter, no_receiving, port_receives, plain_receives },
 	{ "press sent express", PRESS, press_sent, nothing, port_sends_express, plain_sends_express },
 	{ "press sent preemptable, asked", PRESS, press_asked, no_sending, port_sends, plain_sends },
@@ -288,6 +313,7 @@ const struct row rows[] = {
 	{ "photograph sent whole", PHOTOGRAPH, clear, no_sending, port_sends, plain_sends },
 	{ "photograph sent, cut at 760", CUT, photograph_cut, no_sending, port_sends, plain_sends },
 	{ "photograph sent, the rest", PHOTOGRAPH, photograph_rest, no_sending, port_sends, plain_sends },
+	{ "photograph cut most often", PHOTOGRAPH, photograph_asked, no_sending, port_sends_all, plain_sends_all },
 	{ "list of 256 entries read", LIST, longest_list, nothing, port_reads_list, plain_reads_list },
 	{ "list of 256 entries written", LIST, longest_list, nothing, port_writes_list, plain_writes_list },
 	{ "list of 256 entries, its events", LIST, longest_list, nothing, port_lists_events, plain_lists_events },

@@ -1,4 +1,5 @@
-/* The calls that the board and the benchmark measure: each row is one call of the port and the same call of plain.c. */
+/* The calls that the board and the benchmark measure: each row is one call of the port and the same call of plain.c; of a
+ * photograph cut most often, all calls that send it. */
 #ifndef ROWS_H
 #define ROWS_H
 
@@ -6,7 +7,7 @@
 
 struct row {
 	const char *name;
-	uint32_t octets;       /* data octets that the call sums and copies, or the octets of the list */
+	uint32_t octets;       /* data octets that the call sums and copies, or the octets of the photograph or the list */
 	void (*prepare)(void); /* makes the row's mFrame and records, or its list */
 	void (*nothing)(void); /* what port and plain do besides the call */
 	void (*port)(void);

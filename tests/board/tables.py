@@ -132,7 +132,7 @@ def main():
 
     rows = made / "rows"
     if rows.exists():
-        print("\nInstructions of one call\n")
+        print("\nInstructions of one call; of a photograph cut most often, of all calls that send it\n")
         lines, taken = [], {}
         for line in rows.read_text().splitlines():
             name, octets, ours, theirs, *more = line.split("|")
