@@ -7,7 +7,7 @@
 static void counted(const struct row *row, void (*f)(void), const char *what)
 {
 	char name[128];
-	snprintf(name, sizeof name, "%s|%u|%s", row->name, (unsigned)row->octets, what);
+	snprintf(name, sizeof name, "%s|%u|%u|%s", row->name, (unsigned)row->octets, (unsigned)row_calls(), what);
 	f(); /* what the loader does at the first call */
 	CALLGRIND_ZERO_STATS;
 	f();

@@ -10,18 +10,17 @@ def main():
     counts = {}
     for file in Path(sys.argv[1]).glob("callgrind.*"):
         text = file.read_text()
-        name = re.search(r"^desc: Trigger: Client Request: (.*)\|(\d+)\|(\w+)$", text, re.M)
+        name = re.search(r"^desc: Trigger: Client Request: (.*)\|(\d+)\|(\d+)\|(\w+)$", text, re.M)
         total = re.search(r"^(?:summary|totals): (\d+)", text, re.M)
         if name and total:
-            counts.setdefault((int(file.suffix[1:]), name[1], int(name[2])), {})
-            counts[int(file.suffix[1:]), name[1], int(name[2])][name[3]] = int(total[1])
+            counts[int(file.suffix[1:])] = (name[1], int(name[2]), int(name[3])), name[4], int(total[1])
     rows = {}
-    for (order, name, octets), found in sorted(counts.items()):
-        rows.setdefault((name, octets), {}).update(found)
+    for _, (row, what, total) in sorted(counts.items()):
+        rows.setdefault(row, {})[what] = total
     print(f"\n| {'call':32} |      octets |    port | plain C | ratio |")
     print(f"|{'-' * 34}|------------:|--------:|--------:|------:|")
-    for (name, octets), found in rows.items():
-        port, plain = found["port"] - found["nothing"], found["plain"] - found["nothing"]
+    for (name, octets, calls), found in rows.items():
+        port, plain = (round((found[what] - found["nothing"]) / calls) for what in ("port", "plain"))
         print(f"| {name:32} | {octets:>11,} | {port:>7,} | {plain:>7,} | {port / plain:>5.2f} |")
     print()
 

@@ -27,7 +27,8 @@ static uint32_t ticks_of(void (*f)(void))
 
 static uint32_t instructions(void (*f)(void), uint32_t besides)
 {
-	return ((ticks_of(f) - besides) * NANOSECONDS + RUNS / 2) / RUNS;
+	uint32_t calls = RUNS * row_calls();
+	return ((ticks_of(f) - besides) * NANOSECONDS + calls / 2) / calls;
 }
 
 int main(void)

@@ -27,6 +27,11 @@ static struct seatport_written port_written;
 static struct plain_written plain_written;
 static uint32_t port_detail, plain_detail, port_answer, plain_answer;
 
+/* The octets that a row puts in the delimiter's place, a call for each, and what the two say of them. */
+static uint8_t unknown[256];
+static uint32_t unknown_count;
+static uint32_t port_bits[256], plain_bits[256];
+
 /* The same of the hall's schedule. */
 static struct plain_entry entries[ENTRIES];
 static uint8_t list[LIST];
@@ -52,16 +57,24 @@ static void clear(void)
 	memset(&plain_sender, 0, sizeof plain_sender);
 	memset(&port_receiver, 0, sizeof port_receiver);
 	memset(&plain_receiver, 0, sizeof plain_receiver);
+	memset(port_bits, 0, sizeof port_bits);
+	memset(plain_bits, 0, sizeof plain_bits);
 	port_detail = plain_detail = 0;
+	unknown_count = 0;
 	sender_before.active = 1;
 	body = photograph;
 	body_length = PHOTOGRAPH;
 	ask = SEATPORT_NO_ASK;
 }
 
+uint32_t row_calls(void)
+{
+	return unknown_count ? unknown_count : 1;
+}
+
 int row_agrees(void)
 {
-	return port_answer == plain_answer && port_detail == plain_detail &&
+	return port_answer == plain_answer && port_detail == plain_detail && memcmp(port_bits, plain_bits, sizeof port_bits) == 0 &&
 	       memcmp(port_memory, plain_memory, sizeof port_memory) == 0 &&
 	       memcmp(&port_sender, &plain_sender, sizeof port_sender) == 0 &&
 	       memcmp(&port_receiver, &plain_receiver, sizeof port_receiver) == 0 &&
@@ -111,6 +124,66 @@ static void damaged_delimiter(void)
 {
 	express_short();
 	mframe[7] ^= 1;
+}
+
+/* Every octet that differs from the nearest delimiter in so many bits, which plain C tells. */
+static void delimiters_away(uint32_t bits)
+{
+	express_short();
+	for (uint32_t octet = 0; octet < 256; octet++) {
+		struct plain_receiver r = receiver_before;
+		uint32_t detail;
+		mframe[7] = (uint8_t)octet;
+		if (plain_receive(&r, mframe, length, plain_memory, sizeof plain_memory, &detail) == SEATPORT_ANSWER_DELIMITER_BAD &&
+		    detail == bits)
+			unknown[unknown_count++] = (uint8_t)octet;
+	}
+	memcpy(port_memory, plain_memory, sizeof port_memory);
+}
+
+static void delimiters_1_away(void)
+{
+	delimiters_away(1);
+}
+
+static void delimiters_2_away(void)
+{
+	delimiters_away(2);
+}
+
+static void delimiters_3_away(void)
+{
+	delimiters_away(3);
+}
+
+static void delimiters_4_away(void)
+{
+	delimiters_away(4);
+}
+
+/* Not drawn into its callers: so that each of them does the same besides the calls. */
+__attribute__((noinline)) static void each_unknown(void (*receives)(void), uint32_t *bits, const uint32_t *detail)
+{
+	for (uint32_t i = 0; i < unknown_count; i++) {
+		mframe[7] = unknown[i];
+		receives();
+		bits[i] = *detail;
+	}
+}
+
+static void no_receiving_each(void)
+{
+	each_unknown(no_receiving, port_bits, &port_detail);
+}
+
+static void port_receives_each(void)
+{
+	each_unknown(port_receives, port_bits, &port_detail);
+}
+
+static void plain_receives_each(void)
+{
+	each_unknown(plain_receives, plain_bits, &plain_detail);
 }
 
 /* The next mFrame of the photograph: so many of its octets, or as few as may be where these are fewer; with SEATPORT_NO_ASK
@@ -307,6 +380,10 @@ const struct row rows[] = {
 	{ "continuation of 256 received", 256, continuation_256, no_receiving, port_receives, plain_receives },
 	{ "continuation of 1,458 received", 1458, continuation_1458, no_receiving, port_receives, plain_receives },
 	{ "damaged delimiter received", 0, damaged_delimiter, no_receiving, port_receives, plain_receives },
+	{ "delimiter 1 bit away", 0, delimiters_1_away, no_receiving_each, port_receives_each, plain_receives_each },
+	{ "delimiter 2 bits away", 0, delimiters_2_away, no_receiving_each, port_receives_each, plain_receives_each },
+	{ "delimiter 3 bits away", 0, delimiters_3_away, no_receiving_each, port_receives_each, plain_receives_each },
+	{ "delimiter 4 bits away", 0, delimiters_4_away, no_receiving_each, port_receives_each, plain_receives_each },
 	{ "press sent express", PRESS, press_sent, nothing, port_sends_express, plain_sends_express },
 	{ "press sent preemptable, asked", PRESS, press_asked, no_sending, port_sends, plain_sends },
 	{ "photograph sent express", PHOTOGRAPH, clear, nothing, port_sends_express, plain_sends_express },

@@ -1,5 +1,5 @@
 /* The calls that the board and the benchmark measure: each row is one call of the port and the same call of plain.c; of a
- * photograph cut most often, all calls that send it. */
+ * photograph cut most often, all calls that send it; of an unknown delimiter, the mean over all octets that are as far away. */
 #ifndef ROWS_H
 #define ROWS_H
 
@@ -16,6 +16,9 @@ struct row {
 
 extern const struct row rows[];
 extern const unsigned row_count;
+
+/* Among how many calls the instructions of the row that was prepared last are shared out. */
+uint32_t row_calls(void);
 
 /* Whether port and plain gave the same answer, record and octets when the row was last run. */
 int row_agrees(void);

@@ -132,7 +132,8 @@ def main():
 
     rows = made / "rows"
     if rows.exists():
-        print("\nInstructions of one call; of a photograph cut most often, of all calls that send it\n")
+        print("\nInstructions of one call; of a photograph cut most often, of all calls that send it; of an unknown delimiter, the mean "
+              "over all octets as many bits away\n")
         lines, taken = [], {}
         for line in rows.read_text().splitlines():
             name, octets, ours, theirs, *more = line.split("|")
