@@ -16,8 +16,11 @@ enum {
 	RESPOND = 0x19
 };
 
-static const uint8_t start_codes[4] = { 0xe6, 0x4c, 0x7f, 0xb3 };
-static const uint8_t continuation_codes[4] = { 0x61, 0x52, 0x9e, 0x2a };
+#define START_CODES 0xe6, 0x4c, 0x7f, 0xb3
+#define CONTINUATION_CODES 0x61, 0x52, 0x9e, 0x2a
+static const uint8_t start_codes[4] = { START_CODES };
+static const uint8_t continuation_codes[4] = { CONTINUATION_CODES };
+static const uint8_t delimiters[11] = { EXPRESS, START_CODES, CONTINUATION_CODES, VERIFY, RESPOND };
 static const uint8_t fragment_codes[4] = { 0xe6, 0x4c, 0x7f, 0xb3 };
 
 /* The check octets: reflected polynomial EDB88320, an octet a turn. */
@@ -232,21 +235,15 @@ static uint32_t ones(uint32_t x)
 	return n;
 }
 
-static uint32_t nearer(uint32_t best, uint8_t a, uint8_t b)
-{
-	uint32_t n = ones((uint32_t)(a ^ b));
-	return n < best ? n : best;
-}
-
-/* The least number of bits by which an octet differs from any of the eleven delimiters. */
+/* The least number of bits by which an octet differs from any of the eleven delimiters. They are four bits apart, so that two
+ * or less cannot be beaten. */
 static uint32_t distance(uint8_t octet)
 {
-	uint32_t best = nearer(8, octet, EXPRESS);
-	best = nearer(best, octet, VERIFY);
-	best = nearer(best, octet, RESPOND);
-	for (size_t i = 0; i < 4; i++) {
-		best = nearer(best, octet, start_codes[i]);
-		best = nearer(best, octet, continuation_codes[i]);
+	uint32_t best = 8;
+	for (size_t i = 0; i < sizeof delimiters && best > 2; i++) {
+		uint32_t n = ones((uint32_t)(octet ^ delimiters[i]));
+		if (n < best)
+			best = n;
 	}
 	return best;
 }

@@ -76,6 +76,19 @@ class DifferingBits(unittest.TestCase):
         for octet in range(256):
             self.assertEqual(codes.least_differing_bits(octet), least_by_flipping(octet), octet)
 
+    def test_two_or_less_cannot_be_beaten(self):
+        # Document 02, (iii), in whatever order the eleven are looked at.
+        for octet in range(256):
+            for code in printed_delimiters():
+                if ones(octet ^ code) <= 2:
+                    self.assertEqual(codes.least_differing_bits(octet), ones(octet ^ code), octet)
+
+    def test_three_can_be_beaten_behind_every_delimiter(self):
+        # A search that stopped at three would be wrong whichever of the eleven came first.
+        for code in printed_delimiters():
+            three_away = [octet for octet in range(256) if ones(octet ^ code) == 3]
+            self.assertEqual(min(map(codes.least_differing_bits, three_away)), 1)
+
     def test_one_turned_bit_is_seen_in_every_delimiter(self):
         for delimiter in codes.DELIMITERS:
             self.assertEqual(codes.least_differing_bits(delimiter.code), 0)

@@ -29,9 +29,14 @@ pub fn distance(octet: u8) -> u32
         0x19,
     ];
     let mut best: u32 = 8;
-    let mut i: usize = 0;
+    let mut i: u32 = 0;
     while i < 11 {
-        best = least(best, u8::count_ones(octet ^ eleven[i]));
+        let bits = u8::count_ones(octet ^ eleven[i as usize]);
+        // Any two of the eleven are four bits apart, so no other is nearer.
+        if bits <= 2 {
+            return bits;
+        }
+        best = least(best, bits);
         i += 1;
     }
     best

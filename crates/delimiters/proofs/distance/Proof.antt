@@ -1,5 +1,7 @@
--- `delimiters::distance` meets its contract. The invariant: the least so far and that of the codes left make the distance.
+-- `delimiters::distance` meets its contract. The invariant: the least so far and that of the codes left make the distance. What it stops at
+-- early is the distance by itself.
 -- Assumes nothing.
+use borrow.Author.Needs.{needs}
 use mathlib.Core.Path.{_≡_, ap}
 use mathlib.Core.List.{List, map}
 use Prim.Native.Nat.{ℕ, _+_, _-_, _≤_, _<_, min}
@@ -9,6 +11,7 @@ use lib.ListN.{drop, getD, drop-of-length-le}
 use lib.Seq.{drop-cons}
 use Rattle.delimiters.specs.Delimiters.{eleven, differing, leastOf, distanceOf}
 use Rattle.delimiters.proofs.Bits.{least-eight}
+use Rattle.delimiters.proofs.Unbeaten.{unbeaten}
 use Rattle.delimiters.proofs.distance.Statement.{statement}
 use Rattle.delimiters.proofs.distance.Tie as tie
 
@@ -34,8 +37,18 @@ loop-holds : tie.Need-loop-holds Inv-loop μ-loop
 unfolding distanceOf
 loop-holds c = (omega arith, (omega arith, omega (arith, least-eight (map (differing (c .args .octet)) eleven))))
 
-array-read-least : tie.Need-array-read-least Inv-loop μ-loop
-array-read-least c = omega arith
+cast-bits : tie.Need-cast-bits Inv-loop μ-loop
+cast-bits c = search needs
+
+array-read-bits : tie.Need-array-read-bits Inv-loop μ-loop
+array-read-bits c = omega arith
+
+returns : tie.Need-returns Inv-loop μ-loop
+returns c =
+    let start = c .before .before .before in
+    let i = c .before .before .loop .i in
+    let few : differing (start .args .octet) (getD eleven i 0) ≤ 2 = omega (arith, c .if1 .taken) in
+    unbeaten (start .args .octet) i (start .fits .octet .fits) (c .before .loop-test .taken) few
 
 least-requires : tie.Need-least-requires Inv-loop μ-loop
 least-requires c κs = tt
@@ -48,16 +61,16 @@ loop-less c = omega arith
 
 loop-again : tie.Need-loop-again Inv-loop μ-loop
 loop-again c =
-    let l = c .before .before .loop in
-    let t = turn (c .before .before .before .args .octet) (l .i) (c .before .loop-test .taken) in
+    let l = c .before .before .before .loop in
+    let t = turn (c .before .before .before .before .args .octet) (l .i) (c .before .before .loop-test .taken) in
     let e = c .least .ensures in
     (omega arith, (omega arith, omega arith))
 
-returns : tie.Need-returns Inv-loop μ-loop
-returns c =
+returns-2 : tie.Need-returns-2 Inv-loop μ-loop
+returns-2 c =
     let l = c .before .loop in
     let e = at-end (c .before .before .args .octet) (l .i) (c .loop-test .left) in
     omega arith
 
 pub distance-spec : {M : Type 1} → statement M
-distance-spec = tie.close (tie.spec Inv-loop μ-loop loop-holds array-read-least least-requires add-i loop-less loop-again returns)
+distance-spec = tie.close (tie.spec Inv-loop μ-loop loop-holds cast-bits array-read-bits returns least-requires add-i loop-less loop-again returns-2)
