@@ -7,8 +7,9 @@ use receiver_answers::Answer;
 use receiver_answers::Drop;
 use receiver_record::Record;
 ghost use mathlib.Core.Path.{_≡_};
+ghost use mathlib.Core.Bool.{false};
 ghost use Rattle.receiver_answers.specs.Answers.{said};
-ghost use Rattle.outcomes.specs.Outcomes.{told};
+ghost use Rattle.outcomes.specs.Outcomes.{told, delimiterError};
 ghost use Rattle.assembly.specs.Steps.{expressOf, heardOf, stepOf};
 
 fn express(ending: Ending, record: Record) -> Received
@@ -30,14 +31,24 @@ fn express(ending: Ending, record: Record) -> Received
     }
 }
 
-// V or R, with the answer where it is heard.
+// V or R, with the answer where it is heard, which is no delimiter error.
 fn heard(answer: Answer, ending: Ending, record: Record) -> Received
+    requires { ⌜ delimiterError (said answer .number) ≡ false ⌝ }
     ensures { λ r. ⌜ told r ≡ heardOf (said answer) ending «record» ⌝ }
 {
     match ending {
-        Ending::Done(_) => outcomes::unchanged(Answer::Dropped(Drop::Heard), record),
-        Ending::More(_, _) => outcomes::unchanged(answer, record),
-        Ending::Damaged => outcomes::unchanged(Answer::Dropped(Drop::Heard), record),
+        Ending::Done(_) => Received {
+            answer: Answer::Dropped(Drop::Heard),
+            after: record,
+        },
+        Ending::More(_, _) => Received {
+            answer,
+            after: record,
+        },
+        Ending::Damaged => Received {
+            answer: Answer::Dropped(Drop::Heard),
+            after: record,
+        },
     }
 }
 

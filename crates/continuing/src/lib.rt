@@ -127,7 +127,7 @@ pub fn continuation(f: FrameCount, g: FragmentCount, octets: &[u8], record: Reco
     ensures { λ r. ⌜ told r ≡ continuationOf f g (now (octets .entry)) «record» ⌝ }
 {
     let Assembly::Open(frame, fragment, kept, running) = assembly_of(record) else {
-        return outcomes::unchanged(Answer::Dropped(Drop::Closed), record);
+        return outcomes::strayed(Answer::Dropped(Drop::Closed), record);
     };
     let Counts::Expected = counts_of(frame, fragment, f, g) else {
         return outcomes::abandoned(Drop::Count, record);

@@ -21,6 +21,9 @@ told r = record { said = said (r .answer); after = r .after }
 abbrev pub delimiterError : ℕ → Bool
 delimiterError n = eqb n 15 || (eqb n 16 || (eqb n 17 || eqb n 22))
 
+abbrev pub strays : Said → Record → Step
+strays s r = record { said = s; after = counting (strayed (r .counters)) r }
+
 -- an answer that leaves the assembly as it is: all but the delimiter counter stays
 abbrev pub unchanged : Said → Record → Step
 unchanged s r = record { said = s; after = cond (delimiterError (s .number)) (counting (strayed (r .counters)) r) r }

@@ -1,48 +1,33 @@
 // An answer together with the record after it (document 01, "Receiving" and "Counters"): what leaves the assembly as it is, and what
 // abandons it. All of it is by value.
+use faults::Fault;
 use receiver_answers::Answer;
 use receiver_answers::Drop;
 use receiver_answers::Refusal;
 use receiver_record::Record;
 ghost use mathlib.Core.Path.{_≡_};
+ghost use Rattle.faults.specs.Faults.{faultNumber};
 ghost use Rattle.receiver_answers.specs.Answers.{said, dropped, refused};
-ghost use Rattle.outcomes.specs.Outcomes.{told, delimiterError, unchanged, abandoned};
+ghost use Rattle.receiver_answers.specs.declared.Refusal.the-variants.{Head};
+ghost use Rattle.outcomes.specs.Outcomes.{told, delimiterError, strays, unchanged, abandoned};
 
-// An answer and the record to keep.
+// An answer and the record to keep. Where nothing changes, that is the record as it was.
 pub struct Received {
     pub answer: Answer,
     pub after: Record,
 }
 
-fn delimiter_error(number: u32) -> bool
-    ensures { λ r. ⌜ r ≡ delimiterError number ⌝ }
+// An answer that leaves the assembly as it is, and is a delimiter error.
+pub fn strayed(answer: Answer, record: Record) -> Received
+    ensures { λ r. ⌜ told r ≡ strays (said answer) «record» ⌝ }
 {
-    match number {
-        15 => true,
-        16 => true,
-        17 => true,
-        22 => true,
-        _ => false,
-    }
-}
-
-// An answer that leaves the assembly as it is.
-pub fn unchanged(answer: Answer, record: Record) -> Received
-    ensures { λ r. ⌜ told r ≡ unchanged (said answer) «record» ⌝ }
-{
-    if delimiter_error(answer.number()) {
-        let counters = record.counters;
-        return Received {
-            answer,
-            after: Record {
-                counters: counters.strayed(),
-                ..record
-            },
-        };
-    }
+    let counters = record.counters;
     Received {
         answer,
-        after: record,
+        after: Record {
+            counters: counters.strayed(),
+            ..record
+        },
     }
 }
 
@@ -57,9 +42,30 @@ pub fn abandoned(why: Drop, record: Record) -> Received
     }
 }
 
-// A refusal changes nothing but the delimiter counter.
-pub fn refuse(why: Refusal, record: Record) -> Received
-    ensures { λ r. ⌜ told r ≡ unchanged (refused why) «record» ⌝ }
+// Whether a refusal by the head is a delimiter error.
+fn is_stray(why: Fault) -> bool
+    ensures { λ r. ⌜ r ≡ delimiterError (faultNumber why) ⌝ }
 {
-    unchanged(Answer::Refused(why), record)
+    match why {
+        Fault::Short => false,
+        Fault::Long => false,
+        Fault::Preamble => false,
+        Fault::Delimiter(_) => true,
+        Fault::Place => true,
+        Fault::Fragment => true,
+    }
+}
+
+// A refusal by the head changes nothing but the delimiter counter.
+pub fn refuse(why: Fault, record: Record) -> Received
+    ensures { λ r. ⌜ told r ≡ unchanged (refused (Head why)) «record» ⌝ }
+{
+    let answer = Answer::Refused(Refusal::Head(why));
+    if is_stray(why) {
+        return strayed(answer, record);
+    }
+    Received {
+        answer,
+        after: record,
+    }
 }

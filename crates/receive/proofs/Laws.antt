@@ -1,4 +1,4 @@
--- Laws of the definitions: a refused head writes nothing, and data written end within the buffer.
+-- Laws of the definitions: a refusal or a drop writes nothing, and data written end within the buffer.
 -- Assumes nothing.
 use mathlib.Core.Path.{_≡_, refl, sym, _∙_}
 use mathlib.Core.Bool.{Bool, true, false, not, cond, false≢true}
@@ -21,7 +21,11 @@ use Rattle.mframe.specs.declared.Kind.the-variants as K
 use Rattle.faults.specs.declared.Fault.{Fault}
 use Rattle.faults.specs.declared.Fault.the-variants.{Short, Long, Preamble, Delimiter, Place, Fragment}
 use Rattle.receiver_record.specs.declared.Record.{Record}
-use Rattle.receiver_answers.specs.Answers.{says}
+use Rattle.receiver_answers.specs.declared.Refusal.{Refusal}
+use Rattle.receiver_answers.specs.declared.Refusal.the-variants as R
+use Rattle.receiver_answers.specs.declared.Drop.{Drop}
+use Rattle.receiver_answers.specs.declared.Drop.the-variants as D
+use Rattle.receiver_answers.specs.Answers.{refusalNumber, dropNumber, says}
 use Rattle.outcomes.specs.Outcomes.{Step, unchanged, abandoned}
 use Rattle.assembly.specs.Steps.{expressOf, heardOf, stepOf}
 use Rattle.starting.specs.Starting.{startOf}
@@ -36,6 +40,20 @@ refused-writes Preamble = refl
 refused-writes (Delimiter bits) = refl
 refused-writes Place = refl
 refused-writes Fragment = refl
+
+-- so it is of every refusal and every drop
+pub refusal-writes : (why : Refusal) → writes (refusalNumber why) ≡ false
+refusal-writes R.Buffer = refl
+refusal-writes R.Record = refl
+refusal-writes (R.Head fault) = refused-writes fault
+
+pub drop-writes : (why : Drop) → writes (dropNumber why) ≡ false
+drop-writes D.Express = refl
+drop-writes D.Heard = refl
+drop-writes D.Closed = refl
+drop-writes D.Count = refl
+drop-writes D.Over = refl
+drop-writes D.Damaged = refl
 
 -- data that are written end behind their own number, within the longest body
 abbrev pub Within : List ℕ → Step → Type 0

@@ -32,17 +32,14 @@ kept octets buffer end =
     ap₂ (λ (k : ℕ) (l : List ℕ). laid buffer (end - k) l) (sym (data-length octets)) (ap (λ (k : ℕ). take k octets) (sub-zero (length octets - 4)))
 
 -- take
-module _ (kind : Kind) (octets : List ℕ) (r : Record) (b : List ℕ) (got : Received) {number : ℕ} {flag : Bool}
-    (decided : told got ≡ stepOf kind octets r) (numbered : number ≡ said (got .answer) .number) (tested : flag ≡ writes number) where
+module _ (kind : Kind) (octets : List ℕ) (r : Record) (b : List ℕ) (got : Received) {flag : Bool}
+    (decided : told got ≡ stepOf kind octets r) (tested : flag ≡ writes (said (got .answer) .number)) where
   is : said (got .answer) ≡ stepOf kind octets r .said
   is = ap (λ (t : Step). t .said) decided
 
-  flag-is : flag ≡ writes (said (got .answer) .number)
-  flag-is = tested ∙ ap writes numbered
-
   left-is : (t : Bool) → flag ≡ t → cond t (upTo (said (got .answer) .detail) (dataOf octets) b) b ≡ leftOf (stepOf kind octets r .said) (dataOf octets) b
   left-is t q =
-      ap (λ (x : Bool). cond x (upTo (said (got .answer) .detail) (dataOf octets) b) b) (sym q ∙ flag-is) ∙ ap (λ (x : Said). leftOf x (dataOf octets) b) is
+      ap (λ (x : Bool). cond x (upTo (said (got .answer) .detail) (dataOf octets) b) b) (sym q ∙ tested) ∙ ap (λ (x : Said). leftOf x (dataOf octets) b) is
 
   pub idle : flag ≡ false → Taken kind octets r b got b
   idle q = record { step = decided; left = left-is false q }
@@ -52,7 +49,7 @@ module _ (kind : Kind) (octets : List ℕ) (r : Record) (b : List ℕ) (got : Re
     wrote e = record { step = decided; left = e ∙ ap (λ (n : ℕ). upTo n (dataOf octets) b) detailed ∙ left-is true q }
 
     pub room : length octets ≤ 1522 → (length octets - 4 ≤ end) × (end ≤ 1518)
-    room h = rw (detailed, is) (step-within octets r kind h (ap (λ (t : Said). writes (t .number)) (sym is) ∙ sym flag-is ∙ q))
+    room h = rw (detailed, is) (step-within octets r kind h (ap (λ (t : Said). writes (t .number)) (sym is) ∙ sym tested ∙ q))
 
 -- receive
 module _ (m : List ℕ) (r : Record) (b : List ℕ) {got : Received} where

@@ -4,22 +4,28 @@ use mframe::BODY_MOST;
 use mframe::CHECK;
 use mframe::Kind;
 use outcomes::Received;
+use receiver_answers::Answer;
 use receiver_answers::Refusal;
 use receiver_record::Record;
 ghost use mathlib.Core.Path.{_≡_};
 ghost use Prim.Native.Nat.{_+_, _≤_};
 ghost use lib.ListN.{length};
 ghost use Rattle.endings.specs.Judge.{dataOf};
+ghost use Rattle.receiver_answers.specs.Answers.{said};
 ghost use Rattle.receive.specs.Receive.{writes, upTo, Taken, Answered};
 
 // Whether an answer has the data written.
-fn writes(number: u32) -> bool
-    ensures { λ r. ⌜ r ≡ writes number ⌝ }
+fn writes(answer: Answer) -> bool
+    ensures { λ r. ⌜ r ≡ writes (said answer .number) ⌝ }
 {
-    match number {
-        1 => true,
-        2 => true,
-        _ => false,
+    match answer {
+        Answer::Express(_) => false,
+        Answer::Delivered(_) => true,
+        Answer::Kept(_) => true,
+        Answer::VerifyHeard => false,
+        Answer::RespondHeard => false,
+        Answer::Refused(_) => false,
+        Answer::Dropped(_) => false,
     }
 }
 
@@ -39,7 +45,7 @@ fn take(kind: Kind, octets: &[u8], record: Record, buffer: &mut [u8]) -> Receive
 {
     let got = assembly::decide(kind, octets, record);
     let answer = got.answer;
-    if writes(answer.number()) {
+    if writes(answer) {
         keep(octets, answer.detail(), buffer);
     }
     got
@@ -50,13 +56,19 @@ pub fn receive(mframe: &[u8], record: Record, buffer: &mut [u8]) -> Received
     ensures { λ r. ⌜ Answered (now (mframe .entry)) «record» (now (buffer .entry)) r (now (buffer .exit)) ⌝ }
 {
     if buffer.len() < BODY_MOST {
-        return outcomes::refuse(Refusal::Buffer, record);
+        return Received {
+            answer: Answer::Refused(Refusal::Buffer),
+            after: record,
+        };
     }
     if !record.in_range() {
-        return outcomes::refuse(Refusal::Record, record);
+        return Received {
+            answer: Answer::Refused(Refusal::Record),
+            after: record,
+        };
     }
     match heads::head_of(mframe) {
         Head::Known(kind, place) => take(kind, &mframe[place..], record, buffer),
-        Head::Refused(fault) => outcomes::refuse(Refusal::Head(fault), record),
+        Head::Refused(fault) => outcomes::refuse(fault, record),
     }
 }

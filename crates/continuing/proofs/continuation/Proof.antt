@@ -15,12 +15,12 @@ enum-known-frame c = search needs
 enum-told : tie.Need-enum-told
 enum-told c = search needs
 
-unchanged-requires : tie.Need-unchanged-requires
-unchanged-requires c κs = search needs
+strayed-requires : tie.Need-strayed-requires
+strayed-requires c κs = search needs
 
 returns : tie.Need-returns
 returns c =
-    c .unchanged .ensures ∙ closed _ _ _ _ (c .before .before .before .assembly-of .ensures) (c .before .enum-told .given .1)
+    c .strayed .ensures ∙ closed _ _ _ _ (c .before .before .before .assembly-of .ensures) (c .before .enum-told .given .1)
 
 counts-of-requires : tie.Need-counts-of-requires
 counts-of-requires c κs = search needs
@@ -106,7 +106,7 @@ continuation-spec =
     assembly-of-requires
     enum-known-frame
     enum-told
-    unchanged-requires
+    strayed-requires
     returns
     counts-of-requires
     enum-told-2

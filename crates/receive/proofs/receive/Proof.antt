@@ -1,5 +1,6 @@
 -- `receive::receive` meets its contract.
 -- Assumes nothing.
+use mathlib.Core.Path.{refl}
 use native.Mathlib.Omega.{arith}
 use Rattle.receive.proofs.Known.{spacious, roomy}
 use Rattle.receive.proofs.Promise.{short, outside, answered, faulty}
@@ -7,22 +8,14 @@ use borrow.Author.Needs.{needs}
 use Rattle.receive.proofs.receive.Statement.{statement}
 use Rattle.receive.proofs.receive.Tie as tie
 
-refuse-requires : tie.Need-refuse-requires
-refuse-requires c κs = search needs
-
 returns : tie.Need-returns
-returns c =
-    short _ _ _ (c .before .if1 .taken) (c .refuse .ensures)
+returns c = short _ _ _ (c .if1 .taken) refl
 
 in-range-requires : tie.Need-in-range-requires
 in-range-requires c κs = search needs
 
-refuse-requires-2 : tie.Need-refuse-requires-2
-refuse-requires-2 c κs = search needs
-
 returns-2 : tie.Need-returns-2
-returns-2 c =
-    outside _ _ _ (c .before .before .before .if1 .left) (c .before .before .in-range .ensures) (c .before .if2 .taken) (c .refuse2 .ensures)
+returns-2 c = outside _ _ _ (c .before .before .if1 .left) (c .before .in-range .ensures) (c .if2 .taken) refl
 
 head-of-requires : tie.Need-head-of-requires
 head-of-requires c κs = search needs
@@ -53,8 +46,8 @@ take-requires c κs =
 enum-known-fault : tie.Need-enum-known-fault
 enum-known-fault c = search needs
 
-refuse-requires-3 : tie.Need-refuse-requires-3
-refuse-requires-3 c κs = search needs
+refuse-requires : tie.Need-refuse-requires
+refuse-requires c κs = search needs
 
 same-length : tie.Need-same-length
 same-length c = search needs
@@ -68,16 +61,14 @@ returns-3 c =
 returns-4 : tie.Need-returns-4
 returns-4 c =
     let q = c .before .before .before .before in
-    faulty _ _ _ (q .before .before .before .if1 .left) (q .before .before .in-range .ensures) (q .before .if2 .left) (q .head-of .ensures) (c .before .before .fault .given .1) (c .refuse3 .ensures)
+    faulty _ _ _ (q .before .before .before .if1 .left) (q .before .before .in-range .ensures) (q .before .if2 .left) (q .head-of .ensures) (c .before .before .fault .given .1) (c .refuse .ensures)
 
 pub receive-spec : {M : Type 1} → statement M
 receive-spec =
     tie.close
     (tie.spec
-    refuse-requires
     returns
     in-range-requires
-    refuse-requires-2
     returns-2
     head-of-requires
     enum-known-kind
@@ -86,7 +77,7 @@ receive-spec =
     part-take-end
     take-requires
     enum-known-fault
-    refuse-requires-3
+    refuse-requires
     same-length
     returns-3
     returns-4)

@@ -1,17 +1,75 @@
 -- `receive::writes` meets its contract.
 -- Assumes nothing.
-use borrow.Author.Tests.{ne-eqb}
+use mathlib.Core.Path.{sym, ap, _∙_}
+use borrow.Author.Needs.{needs}
+use Rattle.receiver_answers.specs.declared.Answer.{Answer}
+use Rattle.receiver_answers.specs.Answers.{said}
+use Rattle.receive.specs.Receive.{writes}
+use Rattle.receive.proofs.Laws.{refusal-writes, drop-writes}
 use Rattle.receive.proofs.writes.Statement.{statement}
 use Rattle.receive.proofs.writes.Tie as tie
 
+enum-told : tie.Need-enum-told
+enum-told c = search needs
+
+enum-told-2 : tie.Need-enum-told-2
+enum-told-2 c = search needs
+
+enum-told-3 : tie.Need-enum-told-3
+enum-told-3 c = search needs
+
+enum-told-4 : tie.Need-enum-told-4
+enum-told-4 c = search needs
+
+enum-told-5 : tie.Need-enum-told-5
+enum-told-5 c = search needs
+
+enum-told-6 : tie.Need-enum-told-6
+enum-told-6 c = search needs
+
+enum-told-7 : tie.Need-enum-told-7
+enum-told-7 c = search needs
+
 returns : tie.Need-returns
-returns c = simp (c .match .keys1)
+returns c = simp (c .enum-told .given .1)
 
 returns-2 : tie.Need-returns-2
-returns-2 c = simp (c .match .keys2)
+returns-2 c = simp (c .enum-told2 .given .1)
 
 returns-3 : tie.Need-returns-3
-returns-3 c = let r = c .match .rest in simp (ne-eqb _ _ (r .1), ne-eqb _ _ (r .0 .1))
+returns-3 c = simp (c .enum-told3 .given .1)
+
+returns-4 : tie.Need-returns-4
+returns-4 c = simp (c .enum-told4 .given .1)
+
+returns-5 : tie.Need-returns-5
+returns-5 c = simp (c .enum-told5 .given .1)
+
+returns-6 : tie.Need-returns-6
+returns-6 c =
+    let g = c .enum-told6 .given in
+    sym (ap (λ (a : Answer). writes (said a .number)) (g .1) ∙ refusal-writes (g .0 .0))
+
+returns-7 : tie.Need-returns-7
+returns-7 c =
+    let g = c .enum-told7 .given in
+    sym (ap (λ (a : Answer). writes (said a .number)) (g .1) ∙ drop-writes (g .0 .0))
 
 pub writes-spec : {M : Type 1} → statement M
-writes-spec = tie.close (tie.spec returns returns-2 returns-3)
+writes-spec =
+    tie.close
+    (tie.spec
+    enum-told
+    enum-told-2
+    enum-told-3
+    enum-told-4
+    enum-told-5
+    enum-told-6
+    enum-told-7
+    returns
+    returns-2
+    returns-3
+    returns-4
+    returns-5
+    returns-6
+    returns-7)
