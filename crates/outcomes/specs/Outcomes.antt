@@ -26,7 +26,7 @@ strays s r = record { said = s; after = counting (strayed (r .counters)) r }
 
 -- an answer that leaves the assembly as it is: all but the delimiter counter stays
 abbrev pub unchanged : Said → Record → Step
-unchanged s r = record { said = s; after = cond (delimiterError (s .number)) (counting (strayed (r .counters)) r) r }
+unchanged s r = record { said = s; after = cond (delimiterError (s .number)) (strays s r .after) r }
 
 -- "dropped, assembly abandoned": one assembly error
 abbrev pub abandoned : Said → Record → Step
