@@ -15,9 +15,9 @@
  * +----------------------------------------------------------------------------------------------------------------------+
  *
  * Link with libseatport.a. `rt staticlib seatport` makes it for x86-64, `make firmware` for a Cortex-M3 or another
- * processor. Compiled for the Cortex-M3 with -Os it calls __aeabi_memcpy and __aeabi_memclr4 of the C library and nothing
- * else (`make firmware` prints the names for other options), and reads and writes words at any address, which must not
- * trap (docs/BOARD.md).
+ * processor. Compiled for the Cortex-M3 with -Os it calls __aeabi_memclr4 of the C library and nothing else (`make
+ * firmware` prints the names for other options), and reads and writes words at any address, which must not trap
+ * (docs/BOARD.md).
  *
  * Every function is proved, on the language's own machine, to do what is said here and never to touch other memory; what
  * the compiler makes of it for a processor is tested. That holds provided that

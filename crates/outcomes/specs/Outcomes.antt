@@ -1,8 +1,10 @@
 -- An answer together with the record after it, in the paper's numbers (document 01, "Receiving" and "Counters"): one that leaves the assembly
 -- as it is, and one that abandons it. Assumes nothing.
-use mathlib.Core.Bool.{Bool, cond, _||_}
+use mathlib.Core.Bool.{Bool, true, false, cond, _||_}
 use Prim.Native.Nat.{ℕ}
 use lib.Dec.{eqb}
+use Rattle.faults.specs.declared.Fault.{Fault}
+use Rattle.faults.specs.declared.Fault.the-variants.{Short, Long, Preamble, Delimiter, Place, Fragment}
 use Rattle.receiver_answers.specs.Answers.{Said, said}
 use Rattle.receiver_record.specs.declared.Record.{Record}
 use Rattle.counters.specs.Counters.{erred, strayed}
@@ -20,6 +22,15 @@ told r = record { said = said (r .answer); after = r .after }
 -- "delimiter errors: one for each 15, 16, 17, 22"
 abbrev pub delimiterError : ℕ → Bool
 delimiterError n = eqb n 15 || (eqb n 16 || (eqb n 17 || eqb n 22))
+
+-- of the refusals by the head, 12 to 17
+abbrev pub isStray : Fault → Bool
+isStray Short = false
+isStray Long = false
+isStray Preamble = false
+isStray (Delimiter bits) = true
+isStray Place = true
+isStray Fragment = true
 
 abbrev pub strays : Said → Record → Step
 strays s r = record { said = s; after = counting (strayed (r .counters)) r }

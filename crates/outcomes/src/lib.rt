@@ -6,10 +6,9 @@ use receiver_answers::Drop;
 use receiver_answers::Refusal;
 use receiver_record::Record;
 ghost use mathlib.Core.Path.{_≡_};
-ghost use Rattle.faults.specs.Faults.{faultNumber};
 ghost use Rattle.receiver_answers.specs.Answers.{said, dropped, refused};
 ghost use Rattle.receiver_answers.specs.declared.Refusal.the-variants.{Head};
-ghost use Rattle.outcomes.specs.Outcomes.{told, delimiterError, strays, unchanged, abandoned};
+ghost use Rattle.outcomes.specs.Outcomes.{told, isStray, strays, unchanged, abandoned};
 
 // An answer and the record to keep. Where nothing changes, that is the record as it was.
 pub struct Received {
@@ -44,7 +43,7 @@ pub fn abandoned(why: Drop, record: Record) -> Received
 
 // Whether a refusal by the head is a delimiter error.
 fn is_stray(why: Fault) -> bool
-    ensures { λ r. ⌜ r ≡ delimiterError (faultNumber why) ⌝ }
+    ensures { λ r. ⌜ r ≡ isStray why ⌝ }
 {
     match why {
         Fault::Short => false,

@@ -1,4 +1,4 @@
--- Laws of the definitions: a refusal or a drop writes nothing, and data written end within the buffer.
+-- Laws of the definitions: which answers have the data written, and that data written end within the buffer.
 -- Assumes nothing.
 use mathlib.Core.Path.{_≡_, refl, sym, _∙_}
 use mathlib.Core.Bool.{Bool, true, false, not, cond, false≢true}
@@ -25,12 +25,14 @@ use Rattle.receiver_answers.specs.declared.Refusal.{Refusal}
 use Rattle.receiver_answers.specs.declared.Refusal.the-variants as R
 use Rattle.receiver_answers.specs.declared.Drop.{Drop}
 use Rattle.receiver_answers.specs.declared.Drop.the-variants as D
-use Rattle.receiver_answers.specs.Answers.{refusalNumber, dropNumber, says}
+use Rattle.receiver_answers.specs.declared.Answer.{Answer}
+use Rattle.receiver_answers.specs.declared.Answer.the-variants as A
+use Rattle.receiver_answers.specs.Answers.{refusalNumber, dropNumber, says, said}
 use Rattle.outcomes.specs.Outcomes.{Step, unchanged, abandoned}
 use Rattle.assembly.specs.Steps.{expressOf, heardOf, stepOf}
 use Rattle.starting.specs.Starting.{startOf}
 use Rattle.continuing.specs.Continuing.{endedOf, unexpected, totalOf, continuationOf}
-use Rattle.receive.specs.Receive.{writes}
+use Rattle.receive.specs.Receive.{writes, keeps}
 
 -- a head that is refused: its answer writes nothing, and is no delivery
 pub refused-writes : (fault : Fault) → writes (faultNumber fault) ≡ false
@@ -41,19 +43,28 @@ refused-writes (Delimiter bits) = refl
 refused-writes Place = refl
 refused-writes Fragment = refl
 
--- so it is of every refusal and every drop
-pub refusal-writes : (why : Refusal) → writes (refusalNumber why) ≡ false
+-- the answers that keep the data are those whose number has them written
+refusal-writes : (why : Refusal) → false ≡ writes (refusalNumber why)
 refusal-writes R.Buffer = refl
 refusal-writes R.Record = refl
-refusal-writes (R.Head fault) = refused-writes fault
+refusal-writes (R.Head fault) = sym (refused-writes fault)
 
-pub drop-writes : (why : Drop) → writes (dropNumber why) ≡ false
+drop-writes : (why : Drop) → false ≡ writes (dropNumber why)
 drop-writes D.Express = refl
 drop-writes D.Heard = refl
 drop-writes D.Closed = refl
 drop-writes D.Count = refl
 drop-writes D.Over = refl
 drop-writes D.Damaged = refl
+
+pub keeps-writes : (a : Answer) → keeps a ≡ writes (said a .number)
+keeps-writes (A.Express n) = refl
+keeps-writes (A.Delivered n) = refl
+keeps-writes (A.Kept n) = refl
+keeps-writes A.VerifyHeard = refl
+keeps-writes A.RespondHeard = refl
+keeps-writes (A.Refused why) = refusal-writes why
+keeps-writes (A.Dropped why) = drop-writes why
 
 -- data that are written end behind their own number, within the longest body
 abbrev pub Within : List ℕ → Step → Type 0

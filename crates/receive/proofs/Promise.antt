@@ -22,9 +22,9 @@ use Rattle.receiver_answers.specs.Answers.{Said, says, said}
 use Rattle.receiver_record.specs.Records.{inRange}
 use Rattle.outcomes.specs.Outcomes.{Step, told, unchanged}
 use Rattle.assembly.specs.Steps.{stepOf}
-use Rattle.receive.specs.Receive.{receivedOf, upTo, writes, leftOf, bufferOf, Answered, Taken}
+use Rattle.receive.specs.Receive.{receivedOf, upTo, writes, keeps, leftOf, bufferOf, Answered, Taken}
 use Rattle.receive.proofs.Known.{knows, part}
-use Rattle.receive.proofs.Laws.{refused-writes, step-within}
+use Rattle.receive.proofs.Laws.{refused-writes, keeps-writes, step-within}
 
 -- keep
 pub kept : (octets buffer : List ℕ) (end : ℕ) → laid buffer (end - (length octets - 4)) (take (length octets - 4 - 0) octets) ≡ upTo end (dataOf octets) buffer
@@ -33,13 +33,16 @@ kept octets buffer end =
 
 -- take
 module _ (kind : Kind) (octets : List ℕ) (r : Record) (b : List ℕ) (got : Received) {flag : Bool}
-    (decided : told got ≡ stepOf kind octets r) (tested : flag ≡ writes (said (got .answer) .number)) where
+    (decided : told got ≡ stepOf kind octets r) (tested : flag ≡ keeps (got .answer)) where
   is : said (got .answer) ≡ stepOf kind octets r .said
   is = ap (λ (t : Step). t .said) decided
 
+  flag-is : flag ≡ writes (said (got .answer) .number)
+  flag-is = tested ∙ keeps-writes (got .answer)
+
   left-is : (t : Bool) → flag ≡ t → cond t (upTo (said (got .answer) .detail) (dataOf octets) b) b ≡ leftOf (stepOf kind octets r .said) (dataOf octets) b
   left-is t q =
-      ap (λ (x : Bool). cond x (upTo (said (got .answer) .detail) (dataOf octets) b) b) (sym q ∙ tested) ∙ ap (λ (x : Said). leftOf x (dataOf octets) b) is
+      ap (λ (x : Bool). cond x (upTo (said (got .answer) .detail) (dataOf octets) b) b) (sym q ∙ flag-is) ∙ ap (λ (x : Said). leftOf x (dataOf octets) b) is
 
   pub idle : flag ≡ false → Taken kind octets r b got b
   idle q = record { step = decided; left = left-is false q }
@@ -49,7 +52,7 @@ module _ (kind : Kind) (octets : List ℕ) (r : Record) (b : List ℕ) (got : Re
     wrote e = record { step = decided; left = e ∙ ap (λ (n : ℕ). upTo n (dataOf octets) b) detailed ∙ left-is true q }
 
     pub room : length octets ≤ 1522 → (length octets - 4 ≤ end) × (end ≤ 1518)
-    room h = rw (detailed, is) (step-within octets r kind h (ap (λ (t : Said). writes (t .number)) (sym is) ∙ sym tested ∙ q))
+    room h = rw (detailed, is) (step-within octets r kind h (ap (λ (t : Said). writes (t .number)) (sym is) ∙ sym flag-is ∙ q))
 
 -- receive
 module _ (m : List ℕ) (r : Record) (b : List ℕ) {got : Received} where

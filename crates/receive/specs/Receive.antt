@@ -1,6 +1,6 @@
 -- What any octets are answered, and what becomes of the record and of each octet of the buffer (document 01, "Receiving"). Assumes nothing.
 use mathlib.Core.Path.{_≡_}
-use mathlib.Core.Bool.{Bool, not, cond, _||_}
+use mathlib.Core.Bool.{Bool, true, false, not, cond, _||_}
 use mathlib.Core.List.{List, []}
 use Prim.Native.Nat.{ℕ, _-_}
 use lib.Dec.{eqb, ltb}
@@ -11,6 +11,8 @@ use Rattle.heads.specs.Head.{Reading, known, refused, headOf}
 use Rattle.mframe.specs.declared.Kind.{Kind}
 use Rattle.receiver_record.specs.declared.Record.{Record}
 use Rattle.outcomes.specs.declared.Received.{Received}
+use Rattle.receiver_answers.specs.declared.Answer.{Answer}
+use Rattle.receiver_answers.specs.declared.Answer.the-variants.{Express, Delivered, Kept, VerifyHeard, RespondHeard, Refused, Dropped}
 use Rattle.receiver_answers.specs.Answers.{Said, says}
 use Rattle.receiver_record.specs.Records.{inRange}
 use Rattle.outcomes.specs.Outcomes.{Step, told, unchanged}
@@ -33,6 +35,16 @@ upTo end octets buffer = laid buffer (end - length octets) octets
 -- 1 and 2 append the data, which end where the octets kept end; "drops write nothing to the buffer", nor does any other answer
 abbrev pub writes : ℕ → Bool
 writes number = eqb number 1 || eqb number 2
+
+-- which answers these are
+abbrev pub keeps : Answer → Bool
+keeps (Express n) = false
+keeps (Delivered n) = true
+keeps (Kept n) = true
+keeps VerifyHeard = false
+keeps RespondHeard = false
+keeps (Refused why) = false
+keeps (Dropped why) = false
 
 abbrev pub leftOf : Said → List ℕ → List ℕ → List ℕ
 leftOf s octets buffer = cond (writes (s .number)) (upTo (s .detail) octets buffer) buffer

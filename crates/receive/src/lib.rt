@@ -11,12 +11,11 @@ ghost use mathlib.Core.Path.{_≡_};
 ghost use Prim.Native.Nat.{_+_, _≤_};
 ghost use lib.ListN.{length};
 ghost use Rattle.endings.specs.Judge.{dataOf};
-ghost use Rattle.receiver_answers.specs.Answers.{said};
-ghost use Rattle.receive.specs.Receive.{writes, upTo, Taken, Answered};
+ghost use Rattle.receive.specs.Receive.{keeps, upTo, Taken, Answered};
 
 // Whether an answer has the data written.
-fn writes(answer: Answer) -> bool
-    ensures { λ r. ⌜ r ≡ writes (said answer .number) ⌝ }
+fn keeps(answer: Answer) -> bool
+    ensures { λ r. ⌜ r ≡ keeps answer ⌝ }
 {
     match answer {
         Answer::Express(_) => false,
@@ -45,7 +44,7 @@ fn take(kind: Kind, octets: &[u8], record: Record, buffer: &mut [u8]) -> Receive
 {
     let got = assembly::decide(kind, octets, record);
     let answer = got.answer;
-    if writes(answer) {
+    if keeps(answer) {
         keep(octets, answer.detail(), buffer);
     }
     got

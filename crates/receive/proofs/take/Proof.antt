@@ -9,8 +9,8 @@ use Rattle.receive.proofs.take.Tie as tie
 decide-requires : tie.Need-decide-requires
 decide-requires c κs = search needs
 
-writes-requires : tie.Need-writes-requires
-writes-requires c κs = search needs
+keeps-requires : tie.Need-keeps-requires
+keeps-requires c κs = search needs
 
 detail-requires : tie.Need-detail-requires
 detail-requires c κs = search needs
@@ -20,7 +20,7 @@ keep-requires c κs =
     let d = c .before .before .before .before in
     let a = d .before .before .before .args in
     let w =
-    room (a .kind) (a .octets .now) (a .«record») (a .buffer .now) (d .decide .result) (d .decide .ensures) (c .before .before .before .writes .ensures)
+    room (a .kind) (a .octets .now) (a .«record») (a .buffer .now) (d .decide .result) (d .decide .ensures) (c .before .before .before .keeps .ensures)
     (c .before .detail .ensures) (c .before .before .if1 .taken) (omega arith) in
     (omega arith, (omega arith, omega arith))
 
@@ -30,19 +30,19 @@ same-length c = search needs
 returns : tie.Need-returns
 returns c =
     let w = c .before .before .before .before .before .before in
-    wrote _ _ _ _ _ (w .before .decide .ensures) (w .writes .ensures) (c .before .before .before .before .detail .ensures)
+    wrote _ _ _ _ _ (w .before .decide .ensures) (w .keeps .ensures) (c .before .before .before .before .detail .ensures)
     (c .before .before .before .before .before .if1 .taken) (c .before .before .keep .ensures)
 
 returns-2 : tie.Need-returns-2
 returns-2 c =
-    idle _ _ _ _ _ (c .before .before .decide .ensures) (c .before .writes .ensures) (c .if1 .left)
+    idle _ _ _ _ _ (c .before .before .decide .ensures) (c .before .keeps .ensures) (c .if1 .left)
 
 pub take-spec : {M : Type 1} → statement M
 take-spec =
     tie.close
     (tie.spec
     decide-requires
-    writes-requires
+    keeps-requires
     detail-requires
     keep-requires
     same-length
