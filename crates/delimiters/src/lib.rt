@@ -29,6 +29,7 @@ pub fn distance(octet: u8) -> u32
         0x19,
     ];
     let mut best: u32 = 8;
+    // Not a usize, which has 64 bits on the board too.
     let mut i: u32 = 0;
     while i < 11 {
         let bits = u8::count_ones(octet ^ eleven[i as usize]);

@@ -23,7 +23,7 @@ told r = record { said = said (r .answer); after = r .after }
 abbrev pub delimiterError : ℕ → Bool
 delimiterError n = eqb n 15 || (eqb n 16 || (eqb n 17 || eqb n 22))
 
--- of the refusals by the head, 12 to 17
+-- which of the refusals by the head, 12 to 17, these are
 abbrev pub isStray : Fault → Bool
 isStray Short = false
 isStray Long = false
@@ -32,6 +32,7 @@ isStray (Delimiter bits) = true
 isStray Place = true
 isStray Fragment = true
 
+-- an answer that is one: it is counted, and all else stays
 abbrev pub strays : Said → Record → Step
 strays s r = record { said = s; after = counting (strayed (r .counters)) r }
 
