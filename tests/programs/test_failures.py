@@ -16,7 +16,7 @@ from inputs import failing_behind
 ROOT = Path(__file__).resolve().parents[2]
 RUN = str(ROOT / "scripts" / "run-program")
 TRACES = ROOT / "tests" / "traces"
-QUESTIONS = ("test_ground", "test_send", "test_receive", "test_verify", "test_link", "test_gates")
+QUESTIONS = ("test_ground", "test_send", "test_receive", "test_stream", "test_verify", "test_link", "test_gates")
 READING = ("mmlist", "mmholds", *QUESTIONS)
 WRITING = (*READING, "test_waits")
 
@@ -28,6 +28,8 @@ BROKEN = {
     "test_send": ("00", "08", "ff", "01 0000 0000", "01 0100 0000 00", "02 0000", "03", "04" + "00" * 20, "05 0100",
                      "06" + "00" * 11, "07 0000", "02 0108 00", "05 0108" + "00" * 2049),
     "test_receive": ("00", "04", "ff", "01" + "00" * 30, "02 0000", "03 0100", "02 0108 00", "03 0108" + "00" * 2049),
+    "test_stream": ("00", "07", "ff", "01" + "00" * 30, "02 0000", "03 0000", "04" + "00" * 4, "05 00", "05 0100",
+                       "02 0108 00", "03 0108 00", "05 0108" + "00" * 2049),
     "test_verify": ("00", "03", "ff", "01 000000", "02", "01 04000000", "02 02", "02 0a"),
     "test_link": ("00", "00" * 7),
     "test_gates": ("00", "04", "ff", "01 0000 0000", "01 0100 0000 00", "02 0100 0000 00" + "00" * 11, "03 0000",

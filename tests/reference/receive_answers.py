@@ -16,6 +16,14 @@ def record_words(record):
             f" {counters.assembly_errors} {counters.delimiter_errors} {counters.assembled} {counters.fragments}")
 
 
+def record_in(reader):
+    """The record that a question sets."""
+    assembling, frame, fragment, kept, register, *counters = reader.fields(layout.RECORD_FIELDS)
+    return receiving.ReceivingRecord(
+        receiving.Assembly(as_flag(assembling), frame, fragment, kept, register),
+        receiving.Counters(*counters))
+
+
 class Answering:
     """The kept record and memory, and the lines that answer one question after the other."""
 
@@ -33,10 +41,7 @@ class Answering:
         """The lines that answer the next question: one, or none where it only sets what is kept."""
         kind = reader.single_octet()
         if kind == layout.RECORD:
-            assembling, frame, fragment, kept, register, *counters = reader.fields(layout.RECORD_FIELDS)
-            self.record = receiving.ReceivingRecord(
-                receiving.Assembly(as_flag(assembling), frame, fragment, kept, register),
-                receiving.Counters(*counters))
+            self.record = record_in(reader)
             return []
         if kind == layout.BUFFER:
             self.memory = lent_memory(*reader.fields(layout.BUFFER_FIELDS))

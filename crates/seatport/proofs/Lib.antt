@@ -5,4 +5,5 @@ pub mod Scheduled
 pub mod Sent
 pub mod Short
 pub mod Stepped
+pub mod Streamed
 pub mod Traced

@@ -9,6 +9,7 @@ use Rattle.gate_events.specs.Events.{Event}
 use Rattle.gates.specs.Gates as G
 use Rattle.seatport.specs.Sending.{Wrote, Sending, Sent}
 use Rattle.seatport.specs.Receiving.{Receiving, Received, partOf}
+use Rattle.seatport.specs.Streaming.{Ending, Ended}
 use Rattle.seatport.specs.Verifying.{Verifying, Taken}
 use Rattle.seatport.specs.Tracing.{Traced}
 use Rattle.seatport.specs.Scheduling.{Scheduled, Listed}
@@ -31,6 +32,12 @@ received-once s p q =
 -- seatport_express_body
 pub part-once : (m : List ℕ) {x y : List ℕ} → x ≡ partOf m → y ≡ partOf m → x ≡ y
 part-once m p q = p ∙ sym q
+
+-- seatport_end
+pub ended-once : (s : Ending) {m n d e : ℕ} {v w a b x y : List ℕ} → Ended s m v d a x → Ended s n w e b y
+    → (m ≡ n) × ((v ≡ w) × ((d ≡ e) × ((a ≡ b) × (x ≡ y))))
+ended-once s p q =
+    (p .answer ∙ sym (q .answer), (p .state ∙ sym (q .state), (p .value ∙ sym (q .value), (p .after ∙ sym (q .after), p .octets ∙ sym (q .octets)))))
 
 -- seatport_step
 pub taken-once : (s : Verifying) {m n d e : ℕ} {a b : List ℕ} → Taken s m d a → Taken s n e b → (m ≡ n) × ((d ≡ e) × (a ≡ b))

@@ -1,8 +1,9 @@
-// The port for C and Rust to link: an exported function for each public call of document 01, and of document 02, (i), over numbers, lent octets
-// and words, and records that are words of 32 bits. include/seatport.h declares them.
+// The port for C and Rust to link: an exported function for each public call of document 01, and of document 02, (i) and (iv), over numbers, lent
+// octets and words, and records that are words of 32 bits. include/seatport.h declares them.
 mod receiving;
 mod scheduling;
 mod sending;
+mod streaming;
 mod tracing;
 mod verifying;
 
@@ -15,5 +16,7 @@ pub use sending::seatport_express;
 pub use sending::seatport_preemptable;
 pub use sending::seatport_respond;
 pub use sending::seatport_verify;
+pub use streaming::seatport_end;
+pub use streaming::seatport_octet;
 pub use tracing::seatport_trace;
 pub use verifying::seatport_step;

@@ -1,0 +1,99 @@
+-- The promise of an end, told in words, from what is known at each return of the code; and that it is an end of `stream`.
+-- Assumes nothing.
+use mathlib.Core.Path.{_≡_, refl, ap, ap₂, _∙_}
+use mathlib.Core.Bool.{Bool, true, false, cond, _&&_}
+use mathlib.Core.List.{List, [], _∷_}
+use Prim.Native.Nat.{ℕ, _-_, _≤_, _<_}
+use native.Mathlib.Nat.{sub-zero}
+use native.Mathlib.Omega.{arith}
+use borrow.Author.Tests.{le-ltb, ne-eqb}
+use lib.Dec.{ltb}
+use lib.ListN.{length, take}
+use Rattle.receiver_record.specs.Records.{inRange}
+use Rattle.receiver_answers.specs.Answers.{says}
+use Rattle.outcomes.specs.Outcomes.{Step}
+use Rattle.receiver_words.specs.Receiver.{receiverWords, receiverFits, receiverOf}
+use Rattle.receiver_words.proofs.Laws.{receiver-read, receiver-written}
+use Rattle.stream.specs.declared.Given.the-variants.{End}
+use Rattle.stream.specs.Stream.{most, unsound, heard, Turn, streamOf}
+use Rattle.stream.proofs.Laws.{long-received, long-buffer}
+use Rattle.stream.proofs.Heard.{too-long}
+use Rattle.words.specs.Words.{word, flagAt}
+use Rattle.stream_words.specs.State.{stateOf, refusalOf, tooLong}
+use Rattle.stream_words.proofs.Laws.{passed, numberOf}
+use Rattle.seatport.specs.Receiving.{Receiving, Received, told, unfit, receivingOf}
+use Rattle.seatport.specs.Streaming.{Ending, endOf, Ended}
+
+-- nine words that are a record's are what that record is written as
+written : (w : List ℕ) → length w ≡ 9 → receiverFits w ≡ true → receiverWords (receiverOf w) ≡ w
+written (a ∷ f ∷ g ∷ k ∷ c ∷ e ∷ d ∷ m ∷ n ∷ []) h q = receiver-written a f g k c e d m n q
+written [] h q = absurd (let y : ⊥ = omega arith in y)
+written (a ∷ []) h q = absurd (let y : ⊥ = omega arith in y)
+written (a ∷ f ∷ []) h q = absurd (let y : ⊥ = omega arith in y)
+written (a ∷ f ∷ g ∷ []) h q = absurd (let y : ⊥ = omega arith in y)
+written (a ∷ f ∷ g ∷ k ∷ []) h q = absurd (let y : ⊥ = omega arith in y)
+written (a ∷ f ∷ g ∷ k ∷ c ∷ []) h q = absurd (let y : ⊥ = omega arith in y)
+written (a ∷ f ∷ g ∷ k ∷ c ∷ e ∷ []) h q = absurd (let y : ⊥ = omega arith in y)
+written (a ∷ f ∷ g ∷ k ∷ c ∷ e ∷ d ∷ []) h q = absurd (let y : ⊥ = omega arith in y)
+written (a ∷ f ∷ g ∷ k ∷ c ∷ e ∷ d ∷ m ∷ []) h q = absurd (let y : ⊥ = omega arith in y)
+written (a ∷ f ∷ g ∷ k ∷ c ∷ e ∷ d ∷ m ∷ n ∷ o ∷ l) h q = absurd (let y : ⊥ = omega arith in y)
+
+-- an answer that changes nothing
+numbered : ℕ → List ℕ → List ℕ → Receiving
+numbered n w b = record { number = n; detail = 0; receiver = w; buffer = b }
+
+-- more octets than an mFrame can have: the number alone is told, and nothing changes
+long-words : (w m b : List ℕ) → length w ≡ 9 → most < length m → receivingOf w m b ≡ numbered (tooLong w (length b)) w b
+unfolding receivingOf tooLong numbered
+long-words w m b nine h =
+    ap₂ (λ (p : Step) (l : List ℕ). cond (receiverFits w) (told p l) (unfit w b)) (long-received m h (receiverOf w) (length b)) (long-buffer m h (receiverOf w) b)
+    ∙ go (receiverFits w) (ltb (length b) 1518) (inRange (receiverOf w)) refl
+  where
+    go : (fits short good : Bool) → receiverFits w ≡ fits
+        → cond fits (told (record { said = cond short (says 10 0) (cond good (says 13 0) (says 11 0)); after = receiverOf w }) b) (numbered (cond short 10 11) w b)
+        ≡ numbered (cond short 10 (cond (fits && good) 13 11)) w b
+    go true true good q = ap (λ (v : List ℕ). numbered 10 v b) (written w nine q)
+    go true false true q = ap (λ (v : List ℕ). numbered 13 v b) (written w nine q)
+    go true false false q = ap (λ (v : List ℕ). numbered 11 v b) (written w nine q)
+    go false true good q = refl
+    go false false good q = refl
+
+-- an end: refused; of a run with more octets; of one without
+module _ (v area w b : List ℕ) where
+  pub refused : {number : ℕ} → (number ≡ 0 → ⊥) → number ≡ refusalOf v (length area) → Ended (endOf v area w b) number v 0 w b
+  unfolding endOf
+  refused some e =
+      simp (ne-eqb (refusalOf v (length area)) 0 (λ q. some (e ∙ q))) (record { answer = e; state = refl; value = refl; after = refl; octets = refl })
+
+  module _ (none : refusalOf v (length area) ≡ 0) where
+    pub ended-long : {number : ℕ} → flagAt v 1 ≡ true → length w ≡ 9 → number ≡ tooLong w (length b) → Ended (endOf v area w b) number (0 ∷ 0 ∷ []) 0 w b
+    unfolding endOf numbered
+    ended-long more nine e =
+        let p = passed v (length area) none in
+        let l = long-words w (heard (stateOf v) area) b nine (too-long (stateOf v) (p .sound) area (p .roomy) more) in
+        simp (none, l) (record { answer = e; state = refl; value = refl; after = refl; octets = refl })
+
+    pub ended : {number detail count : ℕ} {receiver b′ : List ℕ} → flagAt v 1 ≡ false → count ≡ word v 0
+        → Received (receivingOf w (take (count - 0) area) b) number detail receiver b′ → Ended (endOf v area w b) number (0 ∷ 0 ∷ []) detail receiver b′
+    unfolding endOf
+    ended {number} {detail} {count} {receiver} {b′} more e h =
+        let r : Received (receivingOf w (take (word v 0) area) b) number detail receiver b′ = rw (← e, ← sub-zero count) h in
+        simp (none, more) (record { answer = r .answer; state = refl; value = r .value; after = r .after; octets = r .octets })
+
+-- an end in words, where they are a state's and a record's, is an end of `stream`
+pub record Same (e : Ending) (t : Turn) : Type 0 where
+  pub number : e .received .number ≡ numberOf (t .reply)
+  pub state : stateOf (e .stream) ≡ t .state
+  pub after : receiverOf (e .received .receiver) ≡ t .after
+  pub buffer : e .received .buffer ≡ t .buffer
+
+pub end-streamed : (n f : ℕ) (area w b : List ℕ) → f ≤ 1 → receiverFits w ≡ true
+    → Same (endOf (n ∷ f ∷ []) area w b) (streamOf End (stateOf (n ∷ f ∷ [])) area (receiverOf w) b)
+unfolding endOf refusalOf streamOf receivingOf
+end-streamed n f area w b h fits = by (ltb (length area) most) (unsound (stateOf (n ∷ f ∷ []))) refl refl
+  where
+    by : (short bad : Bool) → ltb (length area) most ≡ short → unsound (stateOf (n ∷ f ∷ [])) ≡ bad
+        → Same (endOf (n ∷ f ∷ []) area w b) (streamOf End (stateOf (n ∷ f ∷ [])) area (receiverOf w) b)
+    by true bad p q = simp p (record { number = refl; state = refl; after = refl; buffer = refl })
+    by false true p q = simp (p, q, le-ltb 1 f h) (record { number = refl; state = refl; after = refl; buffer = refl })
+    by false false p q = simp (p, q, le-ltb 1 f h, fits) (record { number = refl; state = refl; after = receiver-read _; buffer = refl })
