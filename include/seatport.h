@@ -1,9 +1,10 @@
 /* seatport.h: IEEE 802.3br frame preemption in software, for a port that has none in its hardware.
  *
- * Each function is one call of document 01, "The seat port and its rules", or, on the hall's schedule, of document 02, (i);
- * where a frame is cut is told by document 02, (ii). It works on memory that the caller lends for the length of the call
- * and keeps nothing: no allocation, no statics, no working memory but some stack. Several ports, or calls from several
- * threads, need nothing but records and buffers of their own.
+ * Each function is one call of document 01, "The seat port and its rules", or of document 02: on the hall's schedule of
+ * its (i), receiving as octets come of its (iv). Where a frame is cut is told by document 02, (ii). A function works on
+ * memory that the caller lends for the length of the call and keeps nothing: no allocation, no statics, no working memory
+ * but some stack. Several ports, or calls from several threads, need nothing but records, streams and lent memory of their
+ * own.
  *
  * +----------------------------------------------------------------------------------------------------------------------+
  * | Fragments, V and R are understood only by ports built from this code. Their check octets, the mCRC, are those of     |
@@ -28,8 +29,9 @@
  * are refused by number and change neither record nor buffer; what the call hands back beside its number (*written,
  * *detail, *ordered) is then 0. A record that is all zero is fresh: write
  *     struct seatport_sender s = SEATPORT_SENDER_FRESH;
- * and set active, hold and extra as you need them. The calls on the hall's schedule have no record; what they hand back
- * beside a refusal's number is said there, and the fields of their events are uint64_t.
+ * and set active, hold and extra as you need them. A stream (receiving as octets come) has such fields too, and is empty
+ * where it is all zero. The calls on the hall's schedule have no record; what they hand back beside a refusal's number is
+ * said there, and the fields of their events are uint64_t.
  */
 #ifndef SEATPORT_H
 #define SEATPORT_H
@@ -42,14 +44,16 @@
  *   1.1  the hall's schedule
  *   2.0  the earliest cut lies four octets sooner than in 1, since the mCRC counts (extra, below). With extra 0, bodies of
  *        120 to 123 octets can now be cut, the shortest mFrame that does not end its frame has 72 octets (76 in 1), and the
- *        longest body can go in 25 mFrames (23 in 1). Receiving is as in 1: ports of both versions understand each other. */
+ *        longest body can go in 25 mFrames (23 in 1). Receiving is as in 1: ports of both versions understand each other.
+ *   2.1  receiving as octets come */
 #define SEATPORT_VERSION_MAJOR 2
-#define SEATPORT_VERSION_MINOR 0
+#define SEATPORT_VERSION_MINOR 1
 
-/* Fresh records, in C and in C++. */
+/* Fresh records and an empty stream, in C and in C++. */
 #define SEATPORT_SENDER_FRESH { 0, 0, 0, 0, 0, 0, 0 }
 #define SEATPORT_RECEIVER_FRESH { 0, 0, 0, 0, 0, 0, 0, 0, 0 }
 #define SEATPORT_LINK_FRESH { 0, 0, 0, 0 }
+#define SEATPORT_STREAM_EMPTY { 0, 0 }
 
 #ifdef __cplusplus
 extern "C" {
@@ -62,8 +66,9 @@ enum seatport_size {
 	SEATPORT_SIZE_BODY_MAX = 1518,
 	SEATPORT_SIZE_MFRAME_MIN = 72,
 	SEATPORT_SIZE_MFRAME_MAX = 1530,
-	SEATPORT_SIZE_OUTPUT = 1530,  /* the least output buffer of a sending call */
-	SEATPORT_SIZE_ASSEMBLY = 1518 /* the least assembly buffer of seatport_receive */
+	SEATPORT_SIZE_OUTPUT = 1530,   /* the least output buffer of a sending call */
+	SEATPORT_SIZE_ASSEMBLY = 1518, /* the least assembly buffer of seatport_receive and seatport_end */
+	SEATPORT_SIZE_AREA = 1530      /* the least area of seatport_octet and seatport_end */
 };
 
 /* ---- Sending -------------------------------------------------------------------------------------------------------- */
@@ -122,7 +127,7 @@ uint32_t seatport_respond(uint8_t *output, uint64_t room, struct seatport_writte
 
 /* ---- Receiving ------------------------------------------------------------------------------------------------------ */
 
-/* What seatport_receive returns, and its detail; the detail is 0 where no line says otherwise. */
+/* What seatport_receive returns, and seatport_end, and the detail; the detail is 0 where no line says otherwise. */
 enum seatport_answer {
 	SEATPORT_ANSWER_EXPRESS = 0,              /* express delivered; detail: body length. seatport_express_body says where it is */
 	SEATPORT_ANSWER_PREEMPTABLE = 1,          /* preemptable delivered; detail: body length. The body is at the buffer's front */
@@ -137,6 +142,8 @@ enum seatport_answer {
 	SEATPORT_ANSWER_DELIMITER_BAD = 15,       /* refused; detail: the least number of bits to any of the eleven delimiters */
 	SEATPORT_ANSWER_DELIMITER_MISPLACED = 16, /* refused: delimiter out of place */
 	SEATPORT_ANSWER_FRAGMENT_CODE_BAD = 17,   /* refused: unknown fragment code */
+	SEATPORT_ANSWER_AREA_SHORT = 18,          /* refused, by seatport_end alone: area under SEATPORT_SIZE_AREA octets */
+	SEATPORT_ANSWER_STREAM_BAD = 19,          /* refused, by seatport_end alone: stream outside its ranges */
 	SEATPORT_ANSWER_EXPRESS_DAMAGED = 20,     /* dropped: express, FCS wrong */
 	SEATPORT_ANSWER_ORDER_DAMAGED = 21,       /* dropped: V or R, mCRC wrong */
 	SEATPORT_ANSWER_NO_ASSEMBLY = 22,         /* dropped: continuation, none in assembly */
@@ -173,6 +180,52 @@ struct seatport_part {
 /* Where the body of an express mFrame is; both 0 if seatport_receive would not answer 0 with a fresh record. */
 void seatport_express_body(const uint8_t *mframe, uint64_t length, struct seatport_part *body);
 
+/* ---- Receiving as octets come --------------------------------------------------------------------------------------- */
+
+/* A second receiver, for a port that hands over one octet after the other: seatport_octet is given each octet, seatport_end
+ * is told where the mFrame ends, and between them the octets lie in an area that both are lent. Where an mFrame lies in
+ * memory anyway, written there by DMA, say, seatport_receive takes it as it is.
+ *
+ * Stream and area are the caller's, who keeps them between calls as they are left. Tell the end of every run of octets, be
+ * it damaged, cut short or too long: else the next mFrame is taken for the rest of it. A run that is not to be received at
+ * all is dropped by setting the stream to SEATPORT_STREAM_EMPTY.
+ *
+ * Calls on one stream must not interrupt one another. At 10 Mb/s the gap between two mFrames is 12 octets, 9.6 us, which is
+ * shorter than an end takes behind a long one. So firmware has two streams, each with an area, and uses them in turn: the
+ * interrupt handler fills the one while the main loop ends the other. Receiving record and assembly buffer are one for both;
+ * only the ends use them, in the order in which the mFrames came. examples/interrupt.c shows it. */
+
+/* What came since the last end. A stream that was zeroed by habit is empty, as one is after its end. */
+struct seatport_stream {
+	uint32_t count; /* octets at the area's front, 0 to 1,530 */
+	uint32_t more;  /* there were more, which are neither kept nor counted; only where count is 1,530 */
+};
+
+/* What seatport_octet returns. Of the mFrame it says nothing before the end. */
+enum seatport_given {
+	SEATPORT_GIVEN_WAITS = 0,
+	/* refused, nothing changes: area under SEATPORT_SIZE_AREA octets */
+	SEATPORT_GIVEN_AREA_SHORT = SEATPORT_ANSWER_AREA_SHORT,
+	/* refused, nothing changes: stream outside its ranges */
+	SEATPORT_GIVEN_STREAM_BAD = SEATPORT_ANSWER_STREAM_BAD
+};
+
+/* The next octet. It is written to the area behind those that came since the last end, and counted. Where 1,530 are counted
+ * already it is written nowhere; the stream only remembers that there were more. One call takes a constant time, whatever
+ * has come. Returns 0, 18 or 19. */
+uint32_t seatport_octet(struct seatport_stream *stream, uint8_t *area, uint64_t size, uint8_t octet);
+
+/* The end of an mFrame. 18 and 19 are tested before all others and change nothing. Otherwise answer, detail, record and
+ * assembly buffer are those of seatport_receive on all octets since the last end, however many they were (none: 12, more:
+ * 13); the stream is then empty, also after 10 and 11, and the area is as it was. So an express body that is delivered lies
+ * in the area, until the next octets are written over it:
+ *     count = stream.count;
+ *     if (seatport_end(&stream, area, sizeof area, &receiver, buffer, sizeof buffer, &detail) == SEATPORT_ANSWER_EXPRESS)
+ *             seatport_express_body(area, count, &body);
+ * Returns a number of enum seatport_answer. */
+uint32_t seatport_end(struct seatport_stream *stream, const uint8_t *area, uint64_t size, struct seatport_receiver *receiver,
+		      uint8_t *buffer, uint64_t room, uint32_t *detail);
+
 /* ---- Link verification ---------------------------------------------------------------------------------------------- */
 
 enum seatport_phase {
@@ -182,9 +235,9 @@ enum seatport_phase {
 	SEATPORT_PHASE_FAILED = 3
 };
 
-/* What an event does. What was heard has the number of the answer of seatport_receive that tells it, so that the answer can
- * be handed on as it is; no other answer is an event: seatport_step then returns 40, leaves the record as it was and sets
- * *ordered to 0. */
+/* What an event does. What was heard has the number of the answer of seatport_receive or seatport_end that tells it, so that
+ * the answer can be handed on as it is; no other answer is an event: seatport_step then returns 40, leaves the record as it
+ * was and sets *ordered to 0. */
 enum seatport_event {
 	/* in any phase: a response is owed */
 	SEATPORT_EVENT_VERIFY_HEARD = SEATPORT_ANSWER_VERIFY_HEARD,
@@ -338,6 +391,7 @@ typedef char seatport_written_is_2_words[sizeof(struct seatport_written) == 2 * 
 typedef char seatport_sender_is_7_words[sizeof(struct seatport_sender) == 7 * 4 ? 1 : -1];
 typedef char seatport_receiver_is_9_words[sizeof(struct seatport_receiver) == 9 * 4 ? 1 : -1];
 typedef char seatport_part_is_2_words[sizeof(struct seatport_part) == 2 * 4 ? 1 : -1];
+typedef char seatport_stream_is_2_words[sizeof(struct seatport_stream) == 2 * 4 ? 1 : -1];
 typedef char seatport_link_is_4_words[sizeof(struct seatport_link) == 4 * 4 ? 1 : -1];
 typedef char seatport_content_is_3_words[sizeof(struct seatport_content) == 3 * 4 ? 1 : -1];
 typedef char seatport_entry_is_3_words[sizeof(struct seatport_entry) == 3 * 4 ? 1 : -1];

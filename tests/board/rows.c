@@ -17,12 +17,17 @@ static uint32_t body_length;
 static uint64_t ask;
 static struct plain_sender sender_before;
 static struct plain_receiver receiver_before;
+static struct plain_stream stream_before;
+static uint32_t calls;
 
 static uint8_t port_memory[LIST], plain_memory[LIST];
 static struct seatport_sender port_sender;
 static struct plain_sender plain_sender;
 static struct seatport_receiver port_receiver;
 static struct plain_receiver plain_receiver;
+static uint8_t port_area[SEATPORT_SIZE_AREA], plain_area[SEATPORT_SIZE_AREA];
+static struct seatport_stream port_stream;
+static struct plain_stream plain_stream;
 static struct seatport_written port_written;
 static struct plain_written plain_written;
 static uint32_t port_detail, plain_detail, port_answer, plain_answer;
@@ -51,6 +56,11 @@ static void clear(void)
 	memset(plain_memory, 0xa5, sizeof plain_memory);
 	memset(&sender_before, 0, sizeof sender_before);
 	memset(&receiver_before, 0, sizeof receiver_before);
+	memset(&stream_before, 0, sizeof stream_before);
+	memset(port_area, 0xa5, sizeof port_area);
+	memset(plain_area, 0xa5, sizeof plain_area);
+	memset(&port_stream, 0, sizeof port_stream);
+	memset(&plain_stream, 0, sizeof plain_stream);
 	memset(&port_written, 0, sizeof port_written);
 	memset(&plain_written, 0, sizeof plain_written);
 	memset(&port_sender, 0, sizeof port_sender);
@@ -60,6 +70,7 @@ static void clear(void)
 	memset(port_bits, 0, sizeof port_bits);
 	memset(plain_bits, 0, sizeof plain_bits);
 	port_detail = plain_detail = 0;
+	calls = 1;
 	unknown_count = 0;
 	sender_before.active = 1;
 	body = photograph;
@@ -69,7 +80,7 @@ static void clear(void)
 
 uint32_t row_calls(void)
 {
-	return unknown_count ? unknown_count : 1;
+	return calls;
 }
 
 int row_agrees(void)
@@ -78,6 +89,8 @@ int row_agrees(void)
 	       memcmp(port_memory, plain_memory, sizeof port_memory) == 0 &&
 	       memcmp(&port_sender, &plain_sender, sizeof port_sender) == 0 &&
 	       memcmp(&port_receiver, &plain_receiver, sizeof port_receiver) == 0 &&
+	       memcmp(port_area, plain_area, sizeof port_area) == 0 &&
+	       memcmp(&port_stream, &plain_stream, sizeof port_stream) == 0 &&
 	       memcmp(&port_written, &plain_written, sizeof port_written) == 0 && port_cycle == plain_cycle &&
 	       memcmp(port_entries, plain_entries, sizeof port_entries) == 0 &&
 	       memcmp(port_events, plain_events, sizeof port_events) == 0;
@@ -138,6 +151,7 @@ static void delimiters_away(uint32_t bits)
 		    detail == bits)
 			unknown[unknown_count++] = (uint8_t)octet;
 	}
+	calls = unknown_count;
 	memcpy(port_memory, plain_memory, sizeof port_memory);
 }
 
@@ -238,6 +252,92 @@ static void continuation_256(void)
 static void continuation_1458(void)
 {
 	continuation(SEATPORT_NO_ASK);
+}
+
+/* Receiving as octets come */
+
+static void octets_waiting(void)
+{
+	express_long();
+	calls = length;
+}
+
+static void octets_beyond(void)
+{
+	octets_waiting();
+	stream_before.count = SEATPORT_SIZE_AREA;
+}
+
+/* Every octet of the mFrame: what the two do besides the calls, and the calls. */
+
+static void no_octets(void)
+{
+	uint32_t answers = 0;
+	memcpy(&port_stream, &stream_before, sizeof port_stream);
+	for (const uint8_t *octet = mframe, *end = mframe + length; octet != end; octet++) {
+		__asm__ volatile(""); /* in the call's place: the compiler unrolls no loop with a call */
+		answers |= *octet;
+	}
+	port_answer = answers;
+}
+
+static void port_gives(void)
+{
+	uint32_t answers = 0;
+	memcpy(&port_stream, &stream_before, sizeof port_stream);
+	for (const uint8_t *octet = mframe, *end = mframe + length; octet != end; octet++)
+		answers |= seatport_octet(&port_stream, port_area, sizeof port_area, *octet);
+	port_answer = answers;
+}
+
+static void plain_gives(void)
+{
+	uint32_t answers = 0;
+	memcpy(&plain_stream, &stream_before, sizeof plain_stream);
+	for (const uint8_t *octet = mframe, *end = mframe + length; octet != end; octet++)
+		answers |= (uint32_t)plain_octet(&plain_stream, plain_area, sizeof plain_area, *octet);
+	plain_answer = answers;
+}
+
+/* Behind the octets of the mFrame. */
+static void came(void)
+{
+	memcpy(port_area, mframe, length);
+	memcpy(plain_area, mframe, length);
+	stream_before.count = length;
+}
+
+static void end_short(void)
+{
+	express_short();
+	came();
+}
+
+static void end_long(void)
+{
+	express_long();
+	came();
+}
+
+static void no_ending(void)
+{
+	memcpy(&port_stream, &stream_before, sizeof port_stream);
+	memcpy(&port_receiver, &receiver_before, sizeof port_receiver);
+}
+
+static void port_ends(void)
+{
+	memcpy(&port_stream, &stream_before, sizeof port_stream);
+	memcpy(&port_receiver, &receiver_before, sizeof port_receiver);
+	port_answer = seatport_end(&port_stream, port_area, sizeof port_area, &port_receiver, port_memory, sizeof port_memory, &port_detail);
+}
+
+static void plain_ends(void)
+{
+	memcpy(&plain_stream, &stream_before, sizeof plain_stream);
+	memcpy(&plain_receiver, &receiver_before, sizeof plain_receiver);
+	plain_answer = (uint32_t)plain_end(&plain_stream, plain_area, sizeof plain_area, &plain_receiver, plain_memory,
+					   sizeof plain_memory, &plain_detail);
 }
 
 /* Sending */
@@ -384,6 +484,10 @@ const struct row rows[] = {
 	{ "delimiter 2 bits away", 0, delimiters_2_away, no_receiving_each, port_receives_each, plain_receives_each },
 	{ "delimiter 3 bits away", 0, delimiters_3_away, no_receiving_each, port_receives_each, plain_receives_each },
 	{ "delimiter 4 bits away", 0, delimiters_4_away, no_receiving_each, port_receives_each, plain_receives_each },
+	{ "octet, waiting", 1, octets_waiting, no_octets, port_gives, plain_gives },
+	{ "octet beyond 1,530", 0, octets_beyond, no_octets, port_gives, plain_gives },
+	{ "end after 72", PRESS, end_short, no_ending, port_ends, plain_ends },
+	{ "end after 1,530", PHOTOGRAPH, end_long, no_ending, port_ends, plain_ends },
 	{ "press sent express", PRESS, press_sent, nothing, port_sends_express, plain_sends_express },
 	{ "press sent preemptable, asked", PRESS, press_asked, no_sending, port_sends, plain_sends },
 	{ "photograph sent express", PHOTOGRAPH, clear, nothing, port_sends_express, plain_sends_express },

@@ -20,7 +20,7 @@ CALLS = {10, 30, 51, 102}  # R_ARM_THM_CALL, _JUMP24, _JUMP19, _JUMP11: all by w
 MEMORY = 12 * 1024
 STACK = 1024
 LONG, LONG_RATIO, SHORT_RATIO = 256, 0.75, 1.25
-WIRE = 10_000_000
+WIRE, GAP = 10_000_000, 12
 CLOCK, CYCLES = 48_000_000, 2
 
 missed = []
@@ -108,6 +108,17 @@ def needs_as_said(options, names):
             missed.append(f"{path} says something else of the C library")
 
 
+def as_octets_come(taken):
+    """The cycles that the wire leaves: to an octet until the next one, to an end in the gap behind it, to all calls of an mFrame."""
+    cycles = 8 * CLOCK / WIRE
+    against = {"octet, waiting": 1, "octet beyond 1,530": 1, "end after 72": GAP, "end after 1,530": GAP}
+    calls = [(name, octets, taken[name]) for name, octets in against.items()]
+    calls += [(f"{n:,} octets and the end", n + GAP, n * taken["octet, waiting"] + taken[f"end after {n:,}"]) for n in (72, 1530)]
+    print(f"As octets come: an octet of the wire takes {cycles:.1f} cycles at {CLOCK // 1_000_000} MHz\n")
+    table(["calls", "octets of wire", "cycles", "instructions", "cycles an instruction may take"],
+          [[name, f"{octets:,}", f"{octets * cycles:,.1f}", f"{n:,}", f"{octets * cycles / n:.2f}"] for name, octets, n in calls])
+
+
 def main():
     made = Path(sys.argv[1])
     handed_over, = members(Path(sys.argv[2]).read_bytes())
@@ -133,7 +144,7 @@ def main():
     rows = made / "rows"
     if rows.exists():
         print("\nInstructions of one call; of a photograph cut most often, of all calls that send it; of an unknown delimiter, the mean "
-              "over all octets as many bits away\n")
+              "over all octets as many bits away; of an octet given by itself, the mean over those of an mFrame\n")
         lines, taken = [], {}
         for line in rows.read_text().splitlines():
             name, octets, ours, theirs, *more = line.split("|")
@@ -146,6 +157,7 @@ def main():
                 missed.append(name)
             lines.append([name, f"{octets:,}", f"{ours:,}", f"{theirs:,}", f"{ours / theirs:.2f}", f"{limit:.2f}"])
         table(["call", "octets", "port", "plain C", "ratio", "goal"], lines)
+        as_octets_come(taken)
         both = taken["express 1,530 received"] + taken["photograph sent express"]
         wire = 1530 * 8 / WIRE * 1000
         time = both * CYCLES / CLOCK * 1000

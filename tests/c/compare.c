@@ -9,7 +9,8 @@
 #include <stdlib.h>
 #include <string.h>
 
-enum { SENDS = 20000, RECEIVES = 40000, STEPS = 20000, TRACES = 10000, LISTS = 10000, MEMORY = 2048, BEHIND = 64 };
+enum { SENDS = 20000, RECEIVES = 40000, STEPS = 20000, TRACES = 10000, LISTS = 10000, OCTETS = 10000, ENDS = 10000, RUNS = 10000 };
+enum { MEMORY = 2048, BEHIND = 64 };
 
 static unsigned counts[65];
 static const char *call;
@@ -373,6 +374,17 @@ static bool express_body(void)
 	return m != 0;
 }
 
+/* An mFrame that such a record may meet next. */
+static void next_mframe(const struct plain_receiver *r, struct plain_sender *s, uint8_t *body, uint32_t *n)
+{
+	if (r->assembling && one_in(4))
+		fitting(r);
+	else
+		exchanged(s, body, n);
+	if (one_in(3))
+		damage();
+}
+
 static void receive_all(void)
 {
 	static const unsigned numbers[] = { 0, 1, 2, 3, 4, 10, 11, 12, 13, 14, 15, 16, 17, 20, 21, 22, 23, 24, 25 };
@@ -385,12 +397,7 @@ static void receive_all(void)
 	for (turn = 0; turn < RECEIVES; turn++) {
 		struct plain_receiver before = plain;
 		bool broken = one_in(25);
-		if (plain.assembling && one_in(4))
-			fitting(&plain);
-		else
-			exchanged(&sender, body, &n);
-		if (one_in(3))
-			damage();
+		next_mframe(&plain, &sender, body, &n);
 		if (one_in(200))
 			plain.assembly_errors = plain.delimiter_errors = plain.assembled = plain.fragments = 0xffffffff;
 		if (broken)
@@ -642,6 +649,163 @@ static void gates_write_all(void)
 	all_written("octets", SEATPORT_LIST_OCTETS_MAX);
 }
 
+/* Receiving as octets come: single calls with any state, then whole runs of octets, each with its end. */
+
+static uint8_t port_area[MEMORY + BEHIND], plain_area[MEMORY + BEHIND];
+
+static void lend_area(void)
+{
+	fill(plain_area, sizeof plain_area);
+	memcpy(port_area, plain_area, sizeof port_area);
+}
+
+static void same_area(void)
+{
+	same(port_area, plain_area, sizeof port_area, "other octets in the area, or behind it");
+}
+
+/* Any state, often about the limit, and now and then words that fit none. */
+static struct plain_stream some_stream(void)
+{
+	struct plain_stream s;
+	s.count = one_in(6) ? odd_word() : near(SEATPORT_SIZE_AREA, MEMORY);
+	s.more = one_in(10) ? odd_word() : one_in(3);
+	return s;
+}
+
+static void octet_all(void)
+{
+	static const unsigned numbers[] = { 0, 18, 19 };
+	call = "octet";
+	lend_area();
+	for (turn = 0; turn < OCTETS; turn++) {
+		struct plain_stream plain = some_stream();
+		struct seatport_stream port;
+		uint64_t size = some_room(SEATPORT_SIZE_AREA);
+		uint8_t octet = (uint8_t)chance(256);
+		memcpy(&port, &plain, sizeof port);
+		answered(seatport_octet(&port, port_area, size, octet), plain_octet(&plain, plain_area, (size_t)size, octet));
+		same(&port, &plain, sizeof port, "another stream");
+		same_area();
+	}
+	reached("octets", numbers, sizeof numbers / sizeof numbers[0]);
+}
+
+/* An end told to both: what the port answers. */
+static uint32_t end_one(struct plain_stream *stream, struct plain_receiver *record, uint64_t room, uint32_t *detail)
+{
+	struct seatport_stream port_stream;
+	struct seatport_receiver port;
+	uint64_t size = some_room(SEATPORT_SIZE_AREA);
+	uint32_t plain_detail = 7;
+	*detail = 7;
+	memcpy(&port_stream, stream, sizeof port_stream);
+	memcpy(&port, record, sizeof port);
+	uint32_t answer = seatport_end(&port_stream, port_area, size, &port, port_memory, room, detail);
+	answered(answer, plain_end(stream, plain_area, (size_t)size, record, plain_memory, (size_t)room, &plain_detail));
+	same(&port_stream, stream, sizeof port_stream, "another stream");
+	same(&port, record, sizeof port, "another receiving record");
+	same(detail, &plain_detail, sizeof plain_detail, "another detail");
+	same_area();
+	same_memory();
+	hand_on(answer);
+	return answer;
+}
+
+/* Ends of any state, mostly of one that has an mFrame in its area. */
+static void end_all(void)
+{
+	static const unsigned numbers[] = { 0, 1, 2, 3, 4, 10, 11, 12, 13, 14, 15, 16, 17, 18, 19, 20, 21, 22, 23, 24, 25 };
+	static uint8_t body[MEMORY];
+	struct plain_sender sender = { 1, 0, 0, 0, 0, 0, 0 };
+	struct plain_receiver plain = { 0, 0, 0, 0, 0, 0, 0, 0, 0 };
+	uint32_t n = 0, detail;
+	call = "end";
+	lend();
+	lend_area();
+	for (turn = 0; turn < ENDS; turn++) {
+		struct plain_receiver before = plain;
+		bool broken = one_in(25), any = one_in(5);
+		next_mframe(&plain, &sender, body, &n);
+		memcpy(port_area, mframe, length);
+		memcpy(plain_area, mframe, length);
+		struct plain_stream stream = { length, 0 };
+		if (any)
+			stream = some_stream();
+		if (broken)
+			spoil(&plain, 5);
+		uint64_t room = some_room(SEATPORT_SIZE_ASSEMBLY);
+		end_one(&stream, &plain, room, &detail);
+		if (broken)
+			plain = before;
+	}
+	reached("ends", numbers, sizeof numbers / sizeof numbers[0]);
+}
+
+/* The octets of the run, one after the other, for each of which both wait. */
+static void give_run(struct plain_stream *plain)
+{
+	struct seatport_stream port;
+	uint64_t size = between(SEATPORT_SIZE_AREA, MEMORY);
+	memcpy(&port, plain, sizeof port);
+	for (uint32_t i = 0; i < length; i++) {
+		uint32_t number = seatport_octet(&port, port_area, size, mframe[i]);
+		if (number != SEATPORT_GIVEN_WAITS || plain_octet(plain, plain_area, (size_t)size, mframe[i]) != 0)
+			fail("an octet is refused");
+		same(&port, plain, sizeof port, "another stream");
+	}
+	same_area();
+}
+
+/* The end of the run, which a call with too short an area puts off. The first receiver, given the run in one piece, says the
+ * same and leaves the same in a buffer of its own. */
+static void end_run(struct plain_stream *stream, struct plain_receiver *plain, uint8_t *first_memory)
+{
+	struct seatport_receiver first;
+	uint64_t room = some_room(SEATPORT_SIZE_ASSEMBLY);
+	uint32_t answer, detail, first_detail = 7;
+	memcpy(&first, plain, sizeof first);
+	do
+		answer = end_one(stream, plain, room, &detail);
+	while (answer == SEATPORT_ANSWER_AREA_SHORT);
+	if (seatport_receive(&first, mframe, length, first_memory, room, &first_detail) != answer || first_detail != detail)
+		fail("the first receiver answers otherwise");
+	same(&first, plain, sizeof first, "another receiving record than the first receiver's");
+	same(port_memory, first_memory, sizeof port_memory, "other octets in lent memory than the first receiver's");
+}
+
+/* Runs of octets, each with its end: mostly an mFrame, sometimes none or too many. */
+static void run_all(void)
+{
+	static const unsigned numbers[] = { 0, 1, 2, 3, 4, 10, 11, 12, 13, 14, 15, 16, 17, 18, 20, 21, 22, 23, 24, 25 };
+	static uint8_t body[MEMORY], first_memory[sizeof port_memory];
+	struct plain_sender sender = { 1, 0, 0, 0, 0, 0, 0 };
+	struct plain_receiver plain = { 0, 0, 0, 0, 0, 0, 0, 0, 0 };
+	struct plain_stream stream = { 0, 0 };
+	uint32_t n = 0, octets = 0, longer = 0;
+	call = "octet and end";
+	lend();
+	lend_area();
+	memcpy(first_memory, port_memory, sizeof first_memory);
+	for (turn = 0; turn < RUNS; turn++) {
+		struct plain_receiver before = plain;
+		bool broken = one_in(25);
+		next_mframe(&plain, &sender, body, &n);
+		if (one_in(20))
+			length = one_in(2) ? 0 : between(SEATPORT_SIZE_AREA - 1, MEMORY);
+		octets += length;
+		longer += length > SEATPORT_SIZE_AREA;
+		give_run(&stream);
+		if (broken)
+			spoil(&plain, 5);
+		end_run(&stream, &plain, first_memory);
+		if (broken)
+			plain = before;
+	}
+	reached("runs", numbers, sizeof numbers / sizeof numbers[0]);
+	printf("%-12s %u octets, %u runs of more than the area keeps\n", "", (unsigned)octets, (unsigned)longer);
+}
+
 int main(void)
 {
 	send_all();
@@ -651,6 +815,9 @@ int main(void)
 	gates_read_all();
 	gates_write_all();
 	gates_events_all();
+	octet_all();
+	end_all();
+	run_all();
 	if (fflush(stdout) != 0 || ferror(stdout)) {
 		fputs("compare: the output could not be written.\n", stderr);
 		return 1;

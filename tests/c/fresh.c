@@ -2,8 +2,8 @@
  * a number for the preprocessor, and records and entries written as it says are taken by each call. */
 #include "seatport.h"
 
-#if 100 * SEATPORT_VERSION_MAJOR + SEATPORT_VERSION_MINOR < 101
-#error "the calls on the hall's schedule came with version 1.1"
+#if 100 * SEATPORT_VERSION_MAJOR + SEATPORT_VERSION_MINOR < 201
+#error "receiving as octets come came with version 2.1"
 #endif
 
 int main(void)
@@ -11,8 +11,10 @@ int main(void)
 	struct seatport_sender sender = SEATPORT_SENDER_FRESH;
 	struct seatport_receiver receiver = SEATPORT_RECEIVER_FRESH;
 	struct seatport_link link = SEATPORT_LINK_FRESH;
+	struct seatport_stream stream = SEATPORT_STREAM_EMPTY;
 	struct seatport_written written;
-	uint8_t body[SEATPORT_SIZE_BODY_MIN] = { 0 }, output[SEATPORT_SIZE_OUTPUT], buffer[SEATPORT_SIZE_ASSEMBLY];
+	uint8_t body[SEATPORT_SIZE_BODY_MIN] = { 0 }, output[SEATPORT_SIZE_OUTPUT];
+	uint8_t buffer[SEATPORT_SIZE_ASSEMBLY], area[SEATPORT_SIZE_AREA];
 	struct seatport_entry entry = { SEATPORT_OPERATION_HOLD, 255, 1000 };
 	struct seatport_gate_event event;
 	uint8_t list[7];
@@ -30,5 +32,10 @@ int main(void)
 		return 5;
 	if (seatport_gates_events(list, sizeof list, &event, 1, &count, &cycle) != SEATPORT_GATES_GOOD || cycle != entry.interval)
 		return 6;
+	for (uint32_t i = 0; i < written.length; i++)
+		if (seatport_octet(&stream, area, sizeof area, output[i]) != SEATPORT_GIVEN_WAITS)
+			return 7;
+	if (seatport_end(&stream, area, sizeof area, &receiver, buffer, sizeof buffer, &detail) != SEATPORT_ANSWER_EXPRESS)
+		return 8;
 	return 0;
 }

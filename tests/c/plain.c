@@ -1,4 +1,4 @@
-/* Document 01, and document 02, (i), in plain C; plain.h says what for. */
+/* Document 01, and document 02, (i) and (iv), in plain C; plain.h says what for. */
 #include "plain.h"
 
 #include <string.h>
@@ -394,6 +394,40 @@ size_t plain_express_body(const uint8_t *mframe, size_t n, size_t *start)
 		return 0;
 	*start = HEADER;
 	return length;
+}
+
+/* Receiving as octets come. The area holds the longest mFrame and no octet more. */
+
+static bool stream_in_range(const struct plain_stream *s)
+{
+	return s->count < MFRAME_MAX ? s->more == 0 : s->count == MFRAME_MAX && s->more <= 1;
+}
+
+int plain_octet(struct plain_stream *s, uint8_t *area, size_t size, uint8_t octet)
+{
+	if (size < MFRAME_MAX)
+		return 18;
+	if (!stream_in_range(s))
+		return 19;
+	if (s->count < MFRAME_MAX)
+		area[s->count++] = octet;
+	else
+		s->more = 1;
+	return 0;
+}
+
+int plain_end(struct plain_stream *s, const uint8_t *area, size_t size, struct plain_receiver *r, uint8_t *buffer,
+	      size_t room, uint32_t *detail)
+{
+	*detail = 0;
+	if (size < MFRAME_MAX)
+		return 18;
+	if (!stream_in_range(s))
+		return 19;
+	/* However many there were more, one is enough to be refused for, before any octet is looked at. */
+	uint32_t n = s->count + s->more;
+	s->count = s->more = 0;
+	return plain_receive(r, area, n, buffer, room, detail);
 }
 
 /* Verification */

@@ -1,6 +1,6 @@
-/* The calls of document 01, and those of document 02, (i), a second time, in plain C. It shares no code with the port:
- * tests/c/compare.c holds the port against it octet for octet, and the benchmarks measure the port beside it. It is written
- * as one would write it for a small board: a table for the check octets, memcpy, records that the caller keeps, no
+/* The calls of document 01, and those of document 02, (i) and (iv), a second time, in plain C. It shares no code with the
+ * port: tests/c/compare.c holds the port against it octet for octet, and the benchmarks measure the port beside it. It is
+ * written as one would write it for a small board: a table for the check octets, memcpy, records that the caller keeps, no
  * allocation. */
 #ifndef PLAIN_H
 #define PLAIN_H
@@ -23,6 +23,11 @@ struct plain_written {
 struct plain_receiver {
 	uint32_t assembling, frame, fragment, kept, crc;
 	uint32_t assembly_errors, delimiter_errors, assembled, fragments;
+};
+
+/* The octets in the area since the last end, and whether there were more than it keeps. */
+struct plain_stream {
+	uint32_t count, more;
 };
 
 enum plain_phase { PLAIN_OFF, PLAIN_TRYING, PLAIN_VERIFIED, PLAIN_FAILED };
@@ -73,6 +78,12 @@ int plain_receive(struct plain_receiver *receiver, const uint8_t *mframe, size_t
 
 /* The length of the express body, and where it starts; both 0 where there is none. */
 size_t plain_express_body(const uint8_t *mframe, size_t n, size_t *start);
+
+/* Receiving as octets come: an octet is answered 0 while the mFrame is awaited, or 18 or 19; its end as by plain_receive, or
+ * 18 or 19. */
+int plain_octet(struct plain_stream *stream, uint8_t *area, size_t size, uint8_t octet);
+int plain_end(struct plain_stream *stream, const uint8_t *area, size_t size, struct plain_receiver *receiver,
+	      uint8_t *buffer, size_t room, uint32_t *detail);
 
 /* Verification: 0 and whether a V is ordered, or 40. */
 int plain_event(struct plain_link *link, uint32_t event, bool *ordered);

@@ -61,6 +61,28 @@ void seatport_express_body(const uint8_t *mframe, uint64_t length, struct seatpo
 	body->start = (uint32_t)start;
 }
 
+uint32_t seatport_octet(struct seatport_stream *stream, uint8_t *area, uint64_t size, uint8_t octet)
+{
+	struct plain_stream record;
+	memcpy(&record, stream, sizeof record);
+	int number = plain_octet(&record, area, (size_t)size, octet);
+	memcpy(stream, &record, sizeof record);
+	return (uint32_t)number;
+}
+
+uint32_t seatport_end(struct seatport_stream *stream, const uint8_t *area, uint64_t size, struct seatport_receiver *receiver,
+		      uint8_t *buffer, uint64_t room, uint32_t *detail)
+{
+	struct plain_stream record;
+	struct plain_receiver receiving;
+	memcpy(&record, stream, sizeof record);
+	memcpy(&receiving, receiver, sizeof receiving);
+	int number = plain_end(&record, area, (size_t)size, &receiving, buffer, (size_t)room, detail);
+	memcpy(stream, &record, sizeof record);
+	memcpy(receiver, &receiving, sizeof receiving);
+	return (uint32_t)number;
+}
+
 uint32_t seatport_step(struct seatport_link *link, uint32_t event, uint32_t *ordered)
 {
 	struct plain_link record;

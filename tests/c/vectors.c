@@ -1,6 +1,6 @@
 /* Runs stored questions through the calls of seatport.h, be they the port's or plain C's (plain_port.c):
- * vectors send|receive|verify|gates < stdin > stdout. tests/reference/README.md has the layout of the questions and of the
- * answers; the expected output was made by the reference. */
+ * vectors send|receive|stream|verify|gates < stdin > stdout. tests/reference/README.md has the layout of the questions and
+ * of the answers; the expected output was made by the reference. */
 #include "seatport.h"
 
 #include <inttypes.h>
@@ -11,9 +11,10 @@
 
 enum { LONGEST = 2048, ROWS = 300 };
 
-/* What a question gives to its call, and what it lends to it. */
+/* What a question gives to its call, or the area in which its octets are received as they come, and what it lends to it. */
 static union {
 	uint8_t octets[LONGEST];
+	uint8_t area[LONGEST];
 	struct seatport_entry entries[ROWS];
 } given;
 
@@ -65,16 +66,21 @@ static size_t run(uint8_t *octets)
 	return n;
 }
 
-/* Room for so many things, each of this size. */
-static size_t lend(size_t size)
+/* Memory with room for so many things, each of this size. */
+static size_t prepare(uint8_t *memory, size_t most, size_t size)
 {
 	size_t room = word(2);
-	if (room * size > sizeof lent.octets)
+	if (room * size > most)
 		fail("more memory is asked for than there is");
 	uint64_t fill = number(1);
 	for (size_t i = 0; i < room * size; i++)
-		lent.octets[i] = (uint8_t)(fill + i);
+		memory[i] = (uint8_t)(fill + i);
 	return room;
+}
+
+static size_t lend(size_t size)
+{
+	return prepare(lent.octets, sizeof lent.octets, size);
 }
 
 /* The FCS by bits, so that what is compared with is not what is tested. */
@@ -215,20 +221,31 @@ static void set_receiver(struct wide_receiver *r)
 	r->words.fragments = word(4);
 }
 
+/* What a call left of it. A length that is too wide is refused, and stays as it was asked. */
+static void keep(struct wide_receiver *r)
+{
+	if (r->words.kept != clamped(r->kept))
+		r->kept = r->words.kept;
+}
+
+static void print_receiver(const struct wide_receiver *wide)
+{
+	const struct seatport_receiver *r = &wide->words;
+	printf("%" PRIu32 " %" PRIu32 " %" PRIu32 " %" PRIu64 " %08" PRIx32, r->assembling, r->frame, r->fragment, wide->kept, r->crc);
+	printf(" %" PRIu32 " %" PRIu32 " %" PRIu32 " %" PRIu32 " ", r->assembly_errors, r->delimiter_errors, r->assembled, r->fragments);
+}
+
 static void receive(struct wide_receiver *wide, size_t room)
 {
 	const uint8_t *mframe = given.octets;
-	struct seatport_receiver *r = &wide->words;
 	struct seatport_part part;
 	uint32_t detail;
 	size_t n = run(given.octets);
-	r->kept = clamped(wide->kept);
-	uint32_t answer = seatport_receive(r, mframe, n, lent.octets, room, &detail);
-	if (answer != SEATPORT_ANSWER_BUFFER_SHORT && answer != SEATPORT_ANSWER_RECORD_BAD)
-		wide->kept = r->kept;
-	printf("%" PRIu32 " %" PRIu32 " %" PRIu32 " %" PRIu32 " %" PRIu32 " %" PRIu64 " %08" PRIx32, answer, detail, r->assembling,
-	       r->frame, r->fragment, wide->kept, r->crc);
-	printf(" %" PRIu32 " %" PRIu32 " %" PRIu32 " %" PRIu32 " ", r->assembly_errors, r->delimiter_errors, r->assembled, r->fragments);
+	wide->words.kept = clamped(wide->kept);
+	uint32_t answer = seatport_receive(&wide->words, mframe, n, lent.octets, room, &detail);
+	keep(wide);
+	printf("%" PRIu32 " %" PRIu32 " ", answer, detail);
+	print_receiver(wide);
 	print_check(lent.octets, room);
 	seatport_express_body(mframe, n, &part);
 	printf(" %" PRIu32 " %" PRIu32 " ", part.start, part.length);
@@ -250,6 +267,79 @@ static void receive_questions(void)
 			break;
 		case 3:
 			receive(&receiver, room);
+			break;
+		default:
+			fail("no such question");
+		}
+	}
+}
+
+/* A run of octets, each given as it is read: how many were answered with which number, and what they left. */
+static void give_octets(struct seatport_stream *s, size_t size)
+{
+	unsigned waited = 0, area_short = 0, unsound = 0;
+	size_t n = word(2);
+	if (n > LONGEST)
+		fail("a run of octets is too long");
+	for (size_t i = 0; i < n; i++) {
+		switch (seatport_octet(s, given.area, size, (uint8_t)word(1))) {
+		case SEATPORT_GIVEN_WAITS:
+			waited++;
+			break;
+		case SEATPORT_GIVEN_AREA_SHORT:
+			area_short++;
+			break;
+		case SEATPORT_GIVEN_STREAM_BAD:
+			unsound++;
+			break;
+		default:
+			fail("an octet is answered with a number that the call does not have");
+		}
+	}
+	printf("octets %u %u %u %" PRIu32 " %" PRIu32 " ", waited, area_short, unsound, s->count, s->more);
+	print_check(given.area, size);
+	putchar('\n');
+}
+
+static void end_mframe(struct seatport_stream *s, size_t size, struct wide_receiver *wide, size_t room)
+{
+	uint32_t detail;
+	wide->words.kept = clamped(wide->kept);
+	uint32_t answer = seatport_end(s, given.area, size, &wide->words, lent.octets, room, &detail);
+	keep(wide);
+	printf("end %" PRIu32 " %" PRIu32 " %" PRIu32 " %" PRIu32 " ", answer, detail, s->count, s->more);
+	print_receiver(wide);
+	print_check(given.area, size);
+	putchar(' ');
+	print_check(lent.octets, room);
+	putchar('\n');
+}
+
+static void stream_questions(void)
+{
+	struct wide_receiver receiver = { SEATPORT_RECEIVER_FRESH, 0 };
+	struct seatport_stream stream = SEATPORT_STREAM_EMPTY;
+	size_t room = 0, size = 0;
+	for (int question; (question = getchar()) != EOF;) {
+		switch (question) {
+		case 1:
+			set_receiver(&receiver);
+			break;
+		case 2:
+			room = lend(1);
+			break;
+		case 3:
+			size = prepare(given.area, sizeof given.area, 1);
+			break;
+		case 4:
+			stream.count = word(4);
+			stream.more = word(1);
+			break;
+		case 5:
+			give_octets(&stream, size);
+			break;
+		case 6:
+			end_mframe(&stream, size, &receiver, room);
 			break;
 		default:
 			fail("no such question");
@@ -362,12 +452,14 @@ int main(int argc, char **argv)
 		send_questions();
 	else if (argc == 2 && strcmp(argv[1], "receive") == 0)
 		receive_questions();
+	else if (argc == 2 && strcmp(argv[1], "stream") == 0)
+		stream_questions();
 	else if (argc == 2 && strcmp(argv[1], "verify") == 0)
 		verify_questions();
 	else if (argc == 2 && strcmp(argv[1], "gates") == 0)
 		gates_questions();
 	else
-		fail("one word chooses the questions: send, receive, verify or gates");
+		fail("one word chooses the questions: send, receive, stream, verify or gates");
 	if (ferror(stdin))
 		fail("the questions could not be read");
 	if (fflush(stdout) != 0 || ferror(stdout))

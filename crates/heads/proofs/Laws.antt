@@ -1,15 +1,14 @@
--- Laws of an mFrame's octets: its length, the preamble place by place, and that reading what was written gives it back.
+-- Laws of an mFrame's octets: its length, the preamble as two numbers, and that reading what was written gives it back.
 -- Assumes nothing.
-use mathlib.Core.Path.{_≡_, sym, ap, _∙_}
-use mathlib.Core.Bool.{true, false, _&&_, cond}
-use mathlib.Core.List.{List, _∷_, _++_}
-use Prim.Native.Nat.{ℕ, suc, _+_, _≤_, _<_}
-use native.Mathlib.Numerals.{add-one}
+use mathlib.Core.Path.{_≡_, refl, sym, ap, _∙_}
+use mathlib.Core.Bool.{Bool, true, false, cond}
+use mathlib.Core.List.{List, [], _∷_, _++_}
+use Prim.Native.Nat.{ℕ, _≤_, _<_}
 use native.Mathlib.Omega.{arith}
-use borrow.Author.Tests.{le-ltb, ne-eqb}
+use borrow.Author.Tests.{le-ltb, ne-eqb, eqb-true, eqb-false}
 use lib.Dec.{eqb, ltb}
-use lib.ListN.{length, take, drop, getD, length-take, drop-of-length-le}
-use lib.Seq.{drop-cons, getD-take, length-take-le}
+use lib.ListN.{length, take, getD}
+use Rattle.fours.specs.Word.{wordOf, wordAt}
 use Rattle.codes.specs.Codes.{expressCode, startCode, continuationCode, fragmentCode, verifyCode, respondCode}
 use Rattle.delimiters.specs.Delimiters.{meaning, delimiterOf, fragmentOf}
 use Rattle.codes.specs.declared.FrameCount.{FrameCount}
@@ -20,20 +19,67 @@ use Rattle.mframe.specs.declared.Kind.the-variants.{Express, Start, Continuatio
 use Rattle.mframe.specs.Octets.{afterSeven, afterSix, headerOf}
 use Rattle.heads.specs.Head.{known, refused, all55, sixOf, sevenOf, placedOf, headOf}
 use Rattle.mframe.proofs.Laws.{Counted}
+use Rattle.rules.proofs.Tests.{both}
 
--- a place of the preamble more
-pub preamble-turn : (m : List ℕ) (i : ℕ) → i < 6 → 6 ≤ length m
-    → all55 (drop i (take 6 m)) ≡ (eqb (getD m i 0) 0x55 && all55 (drop (i + 1) (take 6 m)))
-unfolding all55
-preamble-turn m i h six =
-    let l : length (take 6 m) ≡ 6 = length-take-le 6 m six in
-    ap all55 (drop-cons (take 6 m) i 0 (omega arith))
-    ∙ ap (λ (x : ℕ). eqb x 0x55 && all55 (drop (suc i) (take 6 m))) (getD-take 6 m i 0 h)
-    ∙ ap (λ (k : ℕ). eqb (getD m i 0) 0x55 && all55 (drop k (take 6 m))) (sym (add-one i))
+-- the preamble as two numbers: of places 0 to 3, and of places 2 to 5
+abbrev four55 : ℕ
+four55 = 0x55555555
 
-pub preamble-end : (m : List ℕ) (i : ℕ) → 6 ≤ i → all55 (drop i (take 6 m)) ≡ true
+-- four octets that make that number are 55
+word-55 : (a b c d : ℕ) → a < 256 → b < 256 → c < 256 → d < 256 → wordOf a b c d ≡ four55
+    → (a ≡ 0x55) × ((b ≡ 0x55) × ((c ≡ 0x55) × (d ≡ 0x55)))
+word-55 a b c d ha hb hc hd e = (omega arith, (omega arith, (omega arith, omega arith)))
+
+-- six octets 55, from the test, and the test from both numbers
+six-55 : (a b c d e f : ℕ) → all55 (a ∷ b ∷ c ∷ d ∷ e ∷ f ∷ []) ≡ true → (wordOf a b c d ≡ four55) × (wordOf c d e f ≡ four55)
 unfolding all55
-preamble-end m i h = ap all55 (drop-of-length-le (take 6 m) (let g : length (take 6 m) ≤ i = omega (arith, length-take 6 m) in g))
+six-55 a b c d e f h =
+    let pa = both (eqb a 0x55) _ h in
+    let pb = both (eqb b 0x55) _ (pa .1) in
+    let pc = both (eqb c 0x55) _ (pb .1) in
+    let pd = both (eqb d 0x55) _ (pc .1) in
+    let pe = both (eqb e 0x55) _ (pd .1) in
+    let pf = both (eqb f 0x55) true (pe .1) in
+    let qa : a ≡ 0x55 = eqb-true a 0x55 (pa .0) in
+    let qb : b ≡ 0x55 = eqb-true b 0x55 (pb .0) in
+    let qc : c ≡ 0x55 = eqb-true c 0x55 (pc .0) in
+    let qd : d ≡ 0x55 = eqb-true d 0x55 (pd .0) in
+    let qe : e ≡ 0x55 = eqb-true e 0x55 (pe .0) in
+    let qf : f ≡ 0x55 = eqb-true f 0x55 (pf .0) in
+    (omega (arith, qa, qb, qc, qd), omega (arith, qc, qd, qe, qf))
+
+not-true : (b : Bool) → (b ≡ true → ⊥) → b ≡ false
+not-true true z = absurd (z refl)
+not-true false z = refl
+
+-- the first six octets, place by place
+six : (m : List ℕ) → 6 ≤ length m → take 6 m ≡ getD m 0 0 ∷ getD m 1 0 ∷ getD m 2 0 ∷ getD m 3 0 ∷ getD m 4 0 ∷ getD m 5 0 ∷ []
+six (a ∷ b ∷ c ∷ d ∷ e ∷ f ∷ rest) h = refl
+six [] h = absurd (let y : ⊥ = omega arith in y)
+six (a ∷ []) h = absurd (let y : ⊥ = omega arith in y)
+six (a ∷ b ∷ []) h = absurd (let y : ⊥ = omega arith in y)
+six (a ∷ b ∷ c ∷ []) h = absurd (let y : ⊥ = omega arith in y)
+six (a ∷ b ∷ c ∷ d ∷ []) h = absurd (let y : ⊥ = omega arith in y)
+six (a ∷ b ∷ c ∷ d ∷ e ∷ []) h = absurd (let y : ⊥ = omega arith in y)
+
+-- whether places 0 to 5 are 55: not, where the first number is another; else by the second
+module _ (m : List ℕ) (h : 6 ≤ length m) where
+  from-all : all55 (take 6 m) ≡ true → (wordAt m 0 ≡ four55) × (wordAt m 2 ≡ four55)
+  from-all e = six-55 (getD m 0 0) (getD m 1 0) (getD m 2 0) (getD m 3 0) (getD m 4 0) (getD m 5 0) (sym (ap all55 (six m h)) ∙ e)
+
+  pub front-other : (wordAt m 0 ≡ four55 → ⊥) → all55 (take 6 m) ≡ false
+  front-other z = not-true (all55 (take 6 m)) (λ e. z (from-all e .0))
+
+  pub by-back : ((k : ℕ) → getD m k 0 < 256) → wordAt m 0 ≡ four55 → all55 (take 6 m) ≡ eqb (wordAt m 2) four55
+  unfolding all55
+  by-back octet p = go (eqb (wordAt m 2) four55) refl
+    where
+      go : (b : Bool) → eqb (wordAt m 2) four55 ≡ b → all55 (take 6 m) ≡ b
+      go true e =
+          let u = word-55 (getD m 0 0) (getD m 1 0) (getD m 2 0) (getD m 3 0) (octet 0) (octet 1) (octet 2) (octet 3) p in
+          let v = word-55 (getD m 2 0) (getD m 3 0) (getD m 4 0) (getD m 5 0) (octet 2) (octet 3) (octet 4) (octet 5) (eqb-true (wordAt m 2) four55 e) in
+          ap all55 (six m h) ∙ simp (u .0, u .1 .0, u .1 .1 .0, u .1 .1 .1, v .1 .1 .0, v .1 .1 .1)
+      go false e = not-true (all55 (take 6 m)) (λ q. eqb-false (wordAt m 2) four55 e (from-all q .1))
 
 -- a continuation's delimiter is not 55
 not-55 : (x : ℕ) (n : FrameCount) → delimiterOf x ≡ D.Continuation n → eqb x 0x55 ≡ false

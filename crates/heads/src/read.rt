@@ -17,19 +17,18 @@ const LEAST: usize = 72;
 
 const MOST: usize = 1530;
 
-// Whether the octets of places 0 to 5 are 55.
+// Four octets 55 as a number.
+const FOUR_55: u32 = 0x55555555;
+
+// Whether the octets of places 0 to 5 are 55: two numbers, of places 0 to 3 and of 2 to 5, since each octet by itself took twelve instructions more.
 fn preambled(mframe: &[u8]) -> bool
     requires { ⌜ 6 ≤ length (now mframe) ⌝ }
     ensures { λ r. ⌜ r ≡ all55 (take 6 (now (mframe .entry))) ⌝ }
 {
-    let mut i = 0;
-    while i < 6 {
-        if mframe[i] != 0x55 {
-            return false;
-        }
-        i += 1;
+    if fours::load(mframe, 0) != FOUR_55 {
+        return false;
     }
-    true
+    fours::load(mframe, 2) == FOUR_55
 }
 
 // A delimiter at place 7.

@@ -1,56 +1,31 @@
--- `heads::read::preambled` meets its contract. The invariant: whether all six are 55 is whether those left are.
+-- `heads::read::preambled` meets its contract.
 -- Assumes nothing.
-use mathlib.Core.Path.{_≡_, refl, sym, ap, _∙_}
-use mathlib.Core.Bool.{Bool, _&&_}
-use Prim.Native.Nat.{_≤_, _-_, _+_}
+use mathlib.Core.Path.{sym, ap, _∙_}
+use Prim.Native.Nat.{ℕ}
 use native.Mathlib.Omega.{arith}
-use borrow.Author.Tests.{eq-eqb, ne-eqb}
-use lib.ListN.{take, drop}
-use Rattle.heads.specs.Head.{all55}
-use Rattle.heads.proofs.Laws.{preamble-turn, preamble-end}
+use lib.Dec.{eqb}
+use Rattle.heads.proofs.Laws.{front-other, by-back}
+use borrow.Author.Needs.{needs}
 use Rattle.heads.proofs.read.preambled.Statement.{statement}
 use Rattle.heads.proofs.read.preambled.Tie as tie
 
-abbrev Inv-loop : tie.InvT-loop
-Inv-loop mframe i₀ i = (i ≤ 6) × (all55 (drop i (take 6 mframe)) ≡ all55 (take 6 mframe))
+load-requires : tie.Need-load-requires
+load-requires c κs = search needs
 
-abbrev μ-loop : tie.MeasureT-loop
-μ-loop mframe i₀ i = 6 - i
-
-loop-holds : tie.Need-loop-holds Inv-loop μ-loop
-loop-holds c = (omega arith, refl)
-
-shared-slice-read-if1 : tie.Need-shared-slice-read-if1 Inv-loop μ-loop
-shared-slice-read-if1 c = omega arith
-
-returns : tie.Need-returns Inv-loop μ-loop
+returns : tie.Need-returns
 returns c =
-    let l = c .before .before .before .loop in
-    let m = c .before .before .before .before .args .mframe .now in
-    sym (sym (l .inv .1) ∙ preamble-turn m (l .i) (omega arith) (omega arith)
-    ∙ ap (λ (b : Bool). b && all55 (drop (l .i + 1) (take 6 m))) (ne-eqb _ _ (c .if1 .taken)))
+    let m = c .before .before .before .args .mframe .now in
+    sym (front-other m (c .before .before .before .pre) (λ e. c .if1 .taken (c .before .load .ensures ∙ e)))
 
-add-i : tie.Need-add-i Inv-loop μ-loop
-add-i c = omega arith
+load-requires-2 : tie.Need-load-requires-2
+load-requires-2 c κs = search needs
 
-loop-less : tie.Need-loop-less Inv-loop μ-loop
-loop-less c = omega arith
-
-loop-again : tie.Need-loop-again Inv-loop μ-loop
-loop-again c =
-    let l = c .before .before .before .loop in
-    let m = c .before .before .before .before .args .mframe .now in (
-      omega arith,
-      sym (preamble-turn m (l .i) (omega arith) (omega arith)
-          ∙ ap (λ (b : Bool). b && all55 (drop (l .i + 1) (take 6 m))) (eq-eqb _ _ (c .if1 .left))) ∙ l .inv .1,
-    )
-
-returns-2 : tie.Need-returns-2 Inv-loop μ-loop
+returns-2 : tie.Need-returns-2
 returns-2 c =
-    let l = c .before .loop in
-    sym (sym (l .inv .1) ∙ preamble-end (c .before .before .args .mframe .now) (l .i) (c .loop-test .left))
+    let start = c .before .before .before .before in
+    let known = c .before .before .before .shared-slice-known .given in
+    ap (λ (w : ℕ). eqb w 0x55555555) (c .load2 .ensures)
+    ∙ sym (by-back (start .args .mframe .now) (start .pre) (λ k. omega (arith, known k)) (sym (c .before .before .load .ensures) ∙ c .before .if1 .left))
 
 pub preambled-spec : {M : Type 1} → statement M
-preambled-spec =
-    tie.close
-    (tie.spec Inv-loop μ-loop loop-holds shared-slice-read-if1 returns add-i loop-less loop-again returns-2)
+preambled-spec = tie.close (tie.spec load-requires returns load-requires-2 returns-2)

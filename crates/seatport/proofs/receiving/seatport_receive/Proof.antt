@@ -21,18 +21,18 @@ receive-requires c κs = search needs
 
 receiver-words-requires : tie.Need-receiver-words-requires
 receiver-words-requires c κs =
-    let a = c .before .before .before .before .before .before .before .before .before .before .before .args in
-    let f = received-fits (c .before .before .before .before .before .receiver-of .result) (c .before .before .before .before .before .receiver-of .ensures .1) (a .mframe .now) (length (a .buffer .now)) in
-    subst Fits (sym (c .before .before .before .receive .ensures .step)) f .kept
+    let a = c .before .before .before .before .before .before .before .before .before .before .before .before .args in
+    let f = received-fits (c .before .before .before .before .before .before .receiver-of .result) (c .before .before .before .before .before .before .receiver-of .ensures .1) (a .mframe .now) (length (a .buffer .now)) in
+    subst Fits (sym (c .before .before .before .before .receive .ensures .step)) f .kept
 
 detail-requires : tie.Need-detail-requires
 detail-requires c κs = search needs
 
 cast-detail : tie.Need-cast-detail
 cast-detail c =
-    let a = c .before .before .before .before .before .before .before .before .before .before .before .before .before .args in
-    let f = received-fits (c .before .before .before .before .before .before .before .receiver-of .result) (c .before .before .before .before .before .before .before .receiver-of .ensures .1) (a .mframe .now) (length (a .buffer .now)) in
-    record { fits = subst (λ (n : ℕ). n < 2 ^ 32) (sym (c .detail .ensures)) (subst Fits (sym (c .before .before .before .before .before .receive .ensures .step)) f .detail) }
+    let a = c .before .before .before .before .before .before .before .before .before .before .before .before .before .before .args in
+    let f = received-fits (c .before .before .before .before .before .before .before .before .receiver-of .result) (c .before .before .before .before .before .before .before .before .receiver-of .ensures .1) (a .mframe .now) (length (a .buffer .now)) in
+    record { fits = subst (λ (n : ℕ). n < 2 ^ 32) (sym (c .detail .ensures)) (subst Fits (sym (c .before .before .before .before .before .before .receive .ensures .step)) f .detail) }
 
 number-requires : tie.Need-number-requires
 number-requires c κs = search needs
@@ -44,7 +44,7 @@ returns : tie.Need-returns
 unfolding receivingOf
 returns c =
     let fits = sym (c .before .before .before .before .before .before .before .before .before .before .receiver-fits .ensures) ∙ c .before .before .before .before .before .before .before .before .before .if1 .taken in
-    let h = received-words (c .before .before .before .before .before .before .receive .ensures) (c .number .ensures) (c .before .detail .ensures) (c .before .before .receiver-words .ensures) in
+    let h = received-words (c .before .before .before .before .before .before .receive .ensures) (c .before .before .number .ensures) (c .detail .ensures) (c .before .receiver-words .ensures) in
     simp (fits, ← (c .before .before .before .before .before .before .before .before .receiver-of .ensures .0), ← (c .before .before .before .before .before .before .receive .ensures .octets)) h
 
 returns-2 : tie.Need-returns-2
@@ -68,10 +68,10 @@ seatport-receive-spec =
     receiver-fits-requires
     receiver-of-requires
     receive-requires
+    number-requires
     receiver-words-requires
     detail-requires
     cast-detail
-    number-requires
     same-length
     returns
     returns-2
