@@ -1,8 +1,8 @@
 -- What a sound state tells of the octets since the last end: how many are kept, and that a run with more is too long.
 -- Assumes nothing.
-use mathlib.Core.Path.{_≡_, refl, sym, ap, _∙_}
-use mathlib.Core.Bool.{Bool, true, false, _&&_, cond}
-use mathlib.Core.List.{List, [], _∷_, _++_}
+use mathlib.Core.Path.{_≡_, sym, ap, _∙_}
+use mathlib.Core.Bool.{Bool, true, false, _&&_}
+use mathlib.Core.List.{List, [], _∷_}
 use Prim.Native.Nat.{ℕ, _-_, _≤_, _<_}
 use native.Mathlib.Nat.{sub-zero}
 use native.Mathlib.Omega.{arith}
@@ -16,7 +16,6 @@ use Rattle.receiver_answers.specs.declared.Answer.the-variants.{Refused}
 use Rattle.receiver_answers.specs.Answers.{Said, refused}
 use Rattle.receiver_record.specs.declared.Record.{Record}
 use Rattle.outcomes.specs.declared.Received.{Received}
-use Rattle.outcomes.specs.Outcomes.{Step}
 use Rattle.receive.specs.Receive.{Answered}
 use Rattle.stream.specs.declared.State.{State}
 use Rattle.stream.specs.Stream.{most, unsound, heard, longOf}

@@ -1,6 +1,6 @@
 -- What is known where neither 18 nor 19 is told; that a state is read back from its words; and that an octet told in words is the call of `stream`.
 -- Assumes nothing.
-use mathlib.Core.Path.{_≡_, refl, sym, ap, _∙_}
+use mathlib.Core.Path.{_≡_, refl}
 use mathlib.Core.Bool.{Bool, true, false, cond, _||_}
 use mathlib.Core.List.{List, [], _∷_}
 use Prim.Native.Nat.{ℕ, _+_, _≤_}
@@ -8,7 +8,6 @@ use native.Mathlib.Omega.{arith}
 use borrow.Author.Tests.{le-ltb, ltb-false}
 use lib.Dec.{eqb, ltb}
 use lib.ListN.{length}
-use Rattle.rules.proofs.Tests.{neither}
 use Rattle.receiver_record.specs.declared.Record.{Record}
 use Rattle.stream.specs.declared.Given.the-variants.{Octet}
 use Rattle.stream.specs.declared.State.{State}
