@@ -4,8 +4,9 @@
  *
  *     cc -Iinclude examples/interrupt.c target/staticlib/libseatport.a -o interrupt
  *
- * Here the port is played: on a board fifo, fifo_level and wire_silent are its registers, receive_interrupt is what its
- * interrupt calls, main_loop is called again and again, and the functions wire and main go.
+ * Here the port is played, and the handler is called between two turns of the main loop, never inside one. On a board
+ * fifo_take reads the port's register, receive_interrupt is what its interrupt calls, main_loop is called again and again,
+ * and the functions wire and main go.
  */
 #include "seatport.h"
 
@@ -14,9 +15,18 @@
 
 enum { PHOTOGRAPH = 1518, PRESS = 60, PRESSED_AT = 500, NOISE = 2000, FIFO = 16, MAIN_LOOP_AT = 32 };
 
-/* What the port has received and nobody has taken, and whether the mFrame ends behind it. */
-static volatile uint8_t fifo[FIFO];
-static volatile uint32_t fifo_level, wire_silent;
+/* The port's FIFO: octets as they came, the last one of each mFrame marked. So the end is told between the right two octets,
+ * however late the handler comes. */
+enum { LAST = 0x100, NONE = 0x200 };
+static uint32_t fifo[FIFO], fifo_first, fifo_level;
+
+static uint32_t fifo_take(void)
+{
+	if (fifo_level == 0)
+		return NONE;
+	fifo_level--;
+	return fifo[fifo_first++ % FIFO];
+}
 
 /* Two runs of octets in turn: the handler fills one and hands it over at its end; the main loop ends it and gives it back. No
  * run is ever used by both, so that only what says whose it is must be volatile. */
@@ -24,37 +34,44 @@ static struct {
 	struct seatport_stream stream;
 	uint8_t area[SEATPORT_SIZE_AREA];
 } runs[2];
-static volatile uint32_t filling, handed_over, missed;
+static volatile uint32_t filling, handed_over, missed, refused;
 
-/* The compiler moves nothing of a run past this, to the other side of its handing over. A single core needs no more. */
+/* The compiler moves nothing of a run past this, to the other side of its handing over. One core and one interrupt need no
+ * more; where DMA or a second core reads the runs, the processor's own barrier is needed too. */
 #define BARRIER() __asm__ volatile("" ::: "memory")
 
-/* The interrupt handler: the FIFO is half full, or the wire has fallen silent. Streams and areas are as the calls want them,
- * so that each octet is answered SEATPORT_GIVEN_WAITS. */
-static void receive_interrupt(void)
+/* The end of the run that is filled. If the main loop has not finished with the other one, there is no third: this one is
+ * missed, as if the wire had lost it, be it a photograph's fragment or a press. A board whose main loop can be so late has
+ * more than two runs, and a queue of those handed over. */
+static void hand_over(void)
 {
 	static const struct seatport_stream empty = SEATPORT_STREAM_EMPTY;
-	uint32_t mine = filling;
-	for (uint32_t i = 0; i < fifo_level; i++)
-		seatport_octet(&runs[mine].stream, runs[mine].area, sizeof runs[mine].area, fifo[i]);
-	fifo_level = 0;
-	if (!wire_silent)
-		return;
-	wire_silent = 0;
 	if (handed_over) {
-		/* The main loop has not finished with the other run, and there is no third. This one is missed, as if the wire
-		 * had lost it, and the next is written over it. */
-		runs[mine].stream = empty;
+		runs[filling].stream = empty;
 		missed++;
 		return;
 	}
-	filling = !mine;
+	filling = !filling;
 	BARRIER();
 	handed_over = 1;
 }
 
+/* The interrupt handler: there are octets in the FIFO. Streams and areas are as the calls want them, so that each octet is
+ * answered SEATPORT_GIVEN_WAITS; it is counted if one is not, since a bad stream refuses every call from then on. */
+static void receive_interrupt(void)
+{
+	for (uint32_t came = fifo_take(); came != NONE; came = fifo_take()) {
+		uint32_t mine = filling;
+		if (seatport_octet(&runs[mine].stream, runs[mine].area, sizeof runs[mine].area, (uint8_t)came) != SEATPORT_GIVEN_WAITS)
+			refused++;
+		if (came & LAST)
+			hand_over();
+	}
+}
+
 /* What the main loop alone uses. */
 static struct seatport_receiver receiver = SEATPORT_RECEIVER_FRESH;
+static struct seatport_link link_state = SEATPORT_LINK_FRESH;
 static uint8_t assembly[SEATPORT_SIZE_ASSEMBLY];
 static uint8_t photograph[PHOTOGRAPH], press[PRESS];
 static int photograph_came, press_came;
@@ -62,6 +79,7 @@ static int photograph_came, press_came;
 static void use(const uint8_t *area, uint32_t count, uint32_t answer, uint32_t detail)
 {
 	struct seatport_part body;
+	uint32_t ordered;
 	switch (answer) {
 	case SEATPORT_ANSWER_EXPRESS:
 		seatport_express_body(area, count, &body);
@@ -74,6 +92,11 @@ static void use(const uint8_t *area, uint32_t count, uint32_t answer, uint32_t d
 		break;
 	case SEATPORT_ANSWER_FRAGMENT:
 		printf("a fragment, %u octets kept\n", (unsigned)detail);
+		break;
+	case SEATPORT_ANSWER_VERIFY_HEARD:
+	case SEATPORT_ANSWER_RESPOND_HEARD:
+		seatport_step(&link_state, answer, &ordered);
+		printf("link verification, a response is %s\n", link_state.owed ? "owed" : "not owed");
 		break;
 	default:
 		printf("answer %u\n", (unsigned)answer);
@@ -101,14 +124,12 @@ static void main_loop(void)
 static void wire(const uint8_t *octets, uint32_t n)
 {
 	for (uint32_t i = 0; i < n; i++) {
-		fifo[fifo_level++] = octets[i];
-		if (fifo_level == FIFO / 2)
+		fifo[(fifo_first + fifo_level++) % FIFO] = octets[i] | (i + 1 == n ? LAST : 0);
+		if (fifo_level == FIFO / 2 || i + 1 == n)
 			receive_interrupt();
 		if (i == MAIN_LOOP_AT)
 			main_loop();
 	}
-	wire_silent = 1;
-	receive_interrupt();
 }
 
 int main(void)
@@ -125,8 +146,7 @@ int main(void)
 	memcpy(press, "lot 4711: mine", 14);
 
 	printf("a photograph of %d octets; the button is pressed at octet %d\n", PHOTOGRAPH, PRESSED_AT);
-	if (seatport_preemptable(&sender, photograph, PHOTOGRAPH, PRESSED_AT, output, sizeof output, &written) !=
-	    SEATPORT_SENT_WRITTEN)
+	if (seatport_preemptable(&sender, photograph, PHOTOGRAPH, PRESSED_AT, output, sizeof output, &written) != SEATPORT_SENT_WRITTEN)
 		return 1;
 	wire(output, written.length);
 	if (seatport_express(press, PRESS, output, sizeof output, &written) != SEATPORT_SENT_WRITTEN)
@@ -135,13 +155,15 @@ int main(void)
 	wire(output, 40);   /* cut short */
 	wire(noise, 20);    /* at its end the main loop has had no turn yet: missed */
 	wire(noise, NOISE); /* longer than an mFrame may be */
-	if (seatport_preemptable(&sender, photograph, PHOTOGRAPH, SEATPORT_NO_ASK, output, sizeof output, &written) !=
-	    SEATPORT_SENT_WRITTEN)
+	if (seatport_verify(output, sizeof output, &written) != SEATPORT_SENT_WRITTEN)
+		return 1;
+	wire(output, written.length);
+	if (seatport_preemptable(&sender, photograph, PHOTOGRAPH, SEATPORT_NO_ASK, output, sizeof output, &written) != SEATPORT_SENT_WRITTEN)
 		return 1;
 	wire(output, written.length);
 	main_loop();
 
-	printf("runs missed: %u\n", (unsigned)missed);
+	printf("runs missed: %u, octets refused: %u\n", (unsigned)missed, (unsigned)refused);
 	puts(photograph_came && press_came ? "both arrived as they were sent" : "something else arrived");
 	if (fflush(stdout) != 0 || ferror(stdout)) {
 		fputs("interrupt: the output could not be written.\n", stderr);

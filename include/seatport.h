@@ -142,8 +142,8 @@ enum seatport_answer {
 	SEATPORT_ANSWER_DELIMITER_BAD = 15,       /* refused; detail: the least number of bits to any of the eleven delimiters */
 	SEATPORT_ANSWER_DELIMITER_MISPLACED = 16, /* refused: delimiter out of place */
 	SEATPORT_ANSWER_FRAGMENT_CODE_BAD = 17,   /* refused: unknown fragment code */
-	SEATPORT_ANSWER_AREA_SHORT = 18,          /* refused, by seatport_end alone: area under SEATPORT_SIZE_AREA octets */
-	SEATPORT_ANSWER_STREAM_BAD = 19,          /* refused, by seatport_end alone: stream outside its ranges */
+	SEATPORT_ANSWER_AREA_SHORT = 18,          /* refused, never by seatport_receive: area under SEATPORT_SIZE_AREA octets */
+	SEATPORT_ANSWER_STREAM_BAD = 19,          /* refused, never by seatport_receive: stream outside its ranges */
 	SEATPORT_ANSWER_EXPRESS_DAMAGED = 20,     /* dropped: express, FCS wrong */
 	SEATPORT_ANSWER_ORDER_DAMAGED = 21,       /* dropped: V or R, mCRC wrong */
 	SEATPORT_ANSWER_NO_ASSEMBLY = 22,         /* dropped: continuation, none in assembly */
@@ -184,18 +184,23 @@ void seatport_express_body(const uint8_t *mframe, uint64_t length, struct seatpo
 
 /* A second receiver, for a port that hands over one octet after the other: seatport_octet is given each octet, seatport_end
  * is told where the mFrame ends, and between them the octets lie in an area that both are lent. Where an mFrame lies in
- * memory anyway, written there by DMA, say, seatport_receive takes it as it is.
+ * memory anyway, written there by DMA, say, seatport_receive takes it as it is, and in a fraction of the time: an octet
+ * here takes 24 instructions on a Cortex-M3, so that a core of 48 MHz which needs two cycles for each does not keep up with
+ * a wire of 10 Mb/s that is never idle (docs/BOARD.md).
  *
- * Stream and area are the caller's, who keeps them between calls as they are left. Tell the end of every run of octets, be
- * it damaged, cut short or too long: else the next mFrame is taken for the rest of it. A run that is not to be received at
- * all is dropped by setting the stream to SEATPORT_STREAM_EMPTY.
+ * Stream and area are the caller's, who keeps them between calls as they are left, the same area for one stream. Tell the
+ * end of every run of octets, be it damaged, cut short or too long, and tell it between the right two octets: else the next
+ * mFrame is taken for the rest of it. A run that is not to be received at all is dropped by setting the stream to
+ * SEATPORT_STREAM_EMPTY.
  *
- * Calls on one stream must not interrupt one another. At 10 Mb/s the gap between two mFrames is 12 octets, 9.6 us, which is
- * shorter than an end takes behind a long one. So firmware has two streams, each with an area, and uses them in turn: the
- * interrupt handler fills the one while the main loop ends the other. Receiving record and assembly buffer are one for both;
- * only the ends use them, in the order in which the mFrames came. examples/interrupt.c shows it. */
+ * Calls on one stream must not interrupt one another; nor must ends, or seatport_receive, on one receiving record or one
+ * assembly buffer. At 10 Mb/s the gap between two mFrames is 12 octets, 9.6 us, in which no mFrame's end is done on the
+ * board. So firmware has two streams or more, each with an area, and uses them in turn: the interrupt handler fills one
+ * while the main loop ends another. Receiving record and assembly buffer are one for all; only the ends use them, in the
+ * order in which the mFrames came. An mFrame for which no stream is free is lost, as on the wire. examples/interrupt.c
+ * shows it, with what the compiler has to be told. */
 
-/* What came since the last end. A stream that was zeroed by habit is empty, as one is after its end. */
+/* What came since the last end. A stream that is all zero is empty; so is one after its end. */
 struct seatport_stream {
 	uint32_t count; /* octets at the area's front, 0 to 1,530 */
 	uint32_t more;  /* there were more, which are neither kept nor counted; only where count is 1,530 */
@@ -204,21 +209,21 @@ struct seatport_stream {
 /* What seatport_octet returns. Of the mFrame it says nothing before the end. */
 enum seatport_given {
 	SEATPORT_GIVEN_WAITS = 0,
-	/* refused, nothing changes: area under SEATPORT_SIZE_AREA octets */
+	/* refused, nothing changes: area under SEATPORT_SIZE_AREA octets (the size of a pointer, perhaps) */
 	SEATPORT_GIVEN_AREA_SHORT = SEATPORT_ANSWER_AREA_SHORT,
-	/* refused, nothing changes: stream outside its ranges */
+	/* refused, nothing changes: stream outside its ranges, and so at every call until it is set to SEATPORT_STREAM_EMPTY */
 	SEATPORT_GIVEN_STREAM_BAD = SEATPORT_ANSWER_STREAM_BAD
 };
 
 /* The next octet. It is written to the area behind those that came since the last end, and counted. Where 1,530 are counted
- * already it is written nowhere; the stream only remembers that there were more. One call takes a constant time, whatever
- * has come. Returns 0, 18 or 19. */
+ * already it is written nowhere; the stream only remembers that there were more. An octet that is refused is lost. One call
+ * takes a constant time, whatever has come. Returns 0, 18 or 19. */
 uint32_t seatport_octet(struct seatport_stream *stream, uint8_t *area, uint64_t size, uint8_t octet);
 
-/* The end of an mFrame. 18 and 19 are tested before all others and change nothing. Otherwise answer, detail, record and
- * assembly buffer are those of seatport_receive on all octets since the last end, however many they were (none: 12, more:
- * 13); the stream is then empty, also after 10 and 11, and the area is as it was. So an express body that is delivered lies
- * in the area, until the next octets are written over it:
+/* The end of an mFrame. 18 and 19 are tested before all others and change nothing but *detail, which is 0. Otherwise
+ * answer, detail, record and assembly buffer are those of seatport_receive on all octets since the last end, however many
+ * they were (none: 12, more: 13); the stream is then empty, also after 10 and 11, and the area is as it was. So an express
+ * body that is delivered lies in the area: give the stream no octet before you are done with it.
  *     count = stream.count;
  *     if (seatport_end(&stream, area, sizeof area, &receiver, buffer, sizeof buffer, &detail) == SEATPORT_ANSWER_EXPRESS)
  *             seatport_express_body(area, count, &body);

@@ -117,6 +117,9 @@ def as_octets_come(taken):
     print(f"As octets come: an octet of the wire takes {cycles:.1f} cycles at {CLOCK // 1_000_000} MHz\n")
     table(["calls", "octets of wire", "cycles", "instructions", "cycles an instruction may take"],
           [[name, f"{octets:,}", f"{octets * cycles:,.1f}", f"{n:,}", f"{octets * cycles / n:.2f}"] for name, octets, n in calls])
+    name, octets, n = calls[-1]
+    print(f"No goal is set for these. {name}: {n * CYCLES / CLOCK * 1000:.3f} ms at {CYCLES} cycles each; the wire takes "
+          f"{octets * 8 / WIRE * 1000:.3f} ms.\n")
 
 
 def main():

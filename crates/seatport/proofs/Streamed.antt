@@ -1,6 +1,6 @@
 -- The promise of an end, told in words, from what is known at each return of the code; and that it is an end of `stream`.
 -- Assumes nothing.
-use mathlib.Core.Path.{_≡_, refl, ap, ap₂, _∙_}
+use mathlib.Core.Path.{_≡_, refl, sym, ap, ap₂, _∙_}
 use mathlib.Core.Bool.{Bool, true, false, cond, _&&_}
 use mathlib.Core.List.{List, [], _∷_}
 use Prim.Native.Nat.{ℕ, _-_, _≤_, _<_}
@@ -13,14 +13,14 @@ use Rattle.receiver_record.specs.Records.{inRange}
 use Rattle.receiver_answers.specs.Answers.{says}
 use Rattle.outcomes.specs.Outcomes.{Step}
 use Rattle.receiver_words.specs.Receiver.{receiverWords, receiverFits, receiverOf}
-use Rattle.receiver_words.proofs.Laws.{receiver-read, receiver-written}
+use Rattle.receiver_words.proofs.Laws.{receiver-written}
 use Rattle.stream.specs.declared.Given.the-variants.{End}
 use Rattle.stream.specs.Stream.{most, unsound, heard, Turn, streamOf}
 use Rattle.stream.proofs.Laws.{long-received, long-buffer}
 use Rattle.stream.proofs.Heard.{too-long}
 use Rattle.words.specs.Words.{word, flagAt}
-use Rattle.stream_words.specs.State.{stateOf, refusalOf, tooLong}
-use Rattle.stream_words.proofs.Laws.{passed, numberOf}
+use Rattle.stream_words.specs.State.{stateOf, stateWords, refusalOf, tooLong}
+use Rattle.stream_words.proofs.Laws.{passed, state-written, numberOf, detailOf}
 use Rattle.seatport.specs.Receiving.{Receiving, Received, told, unfit, receivingOf}
 use Rattle.seatport.specs.Streaming.{Ending, endOf, Ended}
 
@@ -83,17 +83,21 @@ module _ (v area w b : List ℕ) where
 -- an end in words, where they are a state's and a record's, is an end of `stream`
 pub record Same (e : Ending) (t : Turn) : Type 0 where
   pub number : e .received .number ≡ numberOf (t .reply)
-  pub state : stateOf (e .stream) ≡ t .state
-  pub after : receiverOf (e .received .receiver) ≡ t .after
+  pub detail : e .received .detail ≡ detailOf (t .reply)
+  pub state : e .stream ≡ stateWords (t .state)
+  pub after : e .received .receiver ≡ receiverWords (t .after)
   pub buffer : e .received .buffer ≡ t .buffer
 
-pub end-streamed : (n f : ℕ) (area w b : List ℕ) → f ≤ 1 → receiverFits w ≡ true
+pub end-streamed : (n f : ℕ) (area w b : List ℕ) → f ≤ 1 → length w ≡ 9 → receiverFits w ≡ true
     → Same (endOf (n ∷ f ∷ []) area w b) (streamOf End (stateOf (n ∷ f ∷ [])) area (receiverOf w) b)
 unfolding endOf refusalOf streamOf receivingOf
-end-streamed n f area w b h fits = by (ltb (length area) most) (unsound (stateOf (n ∷ f ∷ []))) refl refl
+end-streamed n f area w b h nine fits = by (ltb (length area) most) (unsound (stateOf (n ∷ f ∷ []))) refl refl
   where
     by : (short bad : Bool) → ltb (length area) most ≡ short → unsound (stateOf (n ∷ f ∷ [])) ≡ bad
         → Same (endOf (n ∷ f ∷ []) area w b) (streamOf End (stateOf (n ∷ f ∷ [])) area (receiverOf w) b)
-    by true bad p q = simp p (record { number = refl; state = refl; after = refl; buffer = refl })
-    by false true p q = simp (p, q, le-ltb 1 f h) (record { number = refl; state = refl; after = refl; buffer = refl })
-    by false false p q = simp (p, q, le-ltb 1 f h, fits) (record { number = refl; state = refl; after = receiver-read _; buffer = refl })
+    by true bad p q =
+        simp p (record { number = refl; detail = refl; state = sym (state-written n f h); after = sym (written w nine fits); buffer = refl })
+    by false true p q =
+        simp (p, q, le-ltb 1 f h)
+        (record { number = refl; detail = refl; state = sym (state-written n f h); after = sym (written w nine fits); buffer = refl })
+    by false false p q = simp (p, q, le-ltb 1 f h, fits) (record { number = refl; detail = refl; state = refl; after = refl; buffer = refl })

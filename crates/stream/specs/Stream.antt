@@ -43,8 +43,8 @@ counted s = cond (ltb (s .count) most) (record { count = s .count + 1; more = s 
 abbrev pub stored : ℕ → State → List ℕ → List ℕ
 stored octet s area = cond (ltb (s .count) most) (laid area (s .count) (octet ∷ [])) area
 
--- the octets since the last end, as far as state and area tell: those kept, and where there were more, one octet for all of them (the law
--- `suffice` says why it may be any)
+-- the octets since the last end, as far as state and area tell: those kept, and where there were more, one octet for all of them (the laws
+-- `suffice-received` and `suffice-buffer` say why it may be any)
 abbrev pub heard : State → List ℕ → List ℕ
 heard s area = cond (s .more) (take (s .count) area ++ 0 ∷ []) (take (s .count) area)
 

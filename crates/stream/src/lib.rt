@@ -18,7 +18,7 @@ pub enum Given {
     End,
 }
 
-// What the caller keeps between calls, beside the area: how many octets of it were given since the last end, and whether there were more. The
+// What the caller keeps between calls, beside the area: how many octets at its front came since the last end, and whether there were more. The
 // count is a u32, since a machine of 32 bits has it in one register.
 pub struct State {
     pub count: u32,

@@ -12,11 +12,11 @@ use Rattle.stream.specs.declared.Given.{Given}
 use Rattle.stream.specs.declared.Given.the-variants.{Octet, End}
 use Rattle.stream.specs.Stream.{most, stored, Saying, waits, answers, endedBy, Turn, streamOf}
 use Rattle.stream_histories.specs.Streaming.{next, leftBy, replies, begun, octets, runs, since, answersTo, atEnds, stateAfter, Holds}
-use Rattle.stream_histories.proofs.Turns.{turn, Keeps, keeps-octet, next-octet, next-end}
+use Rattle.stream_histories.proofs.Turns.{turn, Keeps, stored-length, keeps-octet, next-octet, next-end}
 
 go : (gs : List Given) (m area : List ℕ) (p : Saying) (r : Record) (b : List ℕ) → Keeps m area → Holds gs m (turn p (stateAfter m) area r b)
 unfolding replies leftBy runs since answersTo atEnds recordAfter bufferAfter
-go [] m area p r b k = record { answered = refl; after = refl; buffer = refl; state = refl; kept = k .kept }
+go [] m area p r b k = record { answered = refl; after = refl; buffer = refl; state = refl; kept = k .kept; room = refl }
 go (Octet x ∷ gs) m area p r b k =
     let e = next-octet m x area k p r b in
     let h = go gs (m ++ x ∷ []) (stored x (stateAfter m) area) waits r b (keeps-octet m x area k) in
@@ -26,6 +26,7 @@ go (Octet x ∷ gs) m area p r b k =
       buffer = ap (λ (t : Turn). leftBy gs t .buffer) e ∙ h .buffer;
       state = ap (λ (t : Turn). leftBy gs t .state) e ∙ h .state;
       kept = ap (λ (t : Turn). take (length (take most (since (m ++ x ∷ []) gs))) (leftBy gs t .area)) e ∙ h .kept;
+      room = ap (λ (t : Turn). length (leftBy gs t .area)) e ∙ h .room ∙ stored-length m x area k;
     }
 go (End ∷ gs) m area p r b k =
     let e = next-end m area k p r b in
@@ -37,6 +38,7 @@ go (End ∷ gs) m area p r b k =
       buffer = ap (λ (t : Turn). leftBy gs t .buffer) e ∙ h .buffer;
       state = ap (λ (t : Turn). leftBy gs t .state) e ∙ h .state;
       kept = ap (λ (t : Turn). take (length (take most (since [] gs))) (leftBy gs t .area)) e ∙ h .kept;
+      room = ap (λ (t : Turn). length (leftBy gs t .area)) e ∙ h .room;
     }
 
 -- from an empty state, with an area of 1,530 octets or more, any record and any buffer

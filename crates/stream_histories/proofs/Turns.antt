@@ -1,7 +1,7 @@
 -- One call on a state that tells of the octets since the last end: an octet more, and the end.
 -- Assumes nothing.
 use mathlib.Core.Path.{_≡_, refl, sym, ap, ap₂, _∙_}
-use mathlib.Core.Bool.{Bool, true, false, _||_, _&&_}
+use mathlib.Core.Bool.{Bool, true, false, cond, _||_, _&&_}
 use mathlib.Core.List.{List, [], _∷_, _++_}
 use Prim.Native.Nat.{ℕ, _+_, _≤_, _<_}
 use native.Mathlib.Omega.{arith}
@@ -92,6 +92,13 @@ module _ (m : List ℕ) where
             roomy = k .roomy;
             kept = ap (λ (i : ℕ). take i area) (count-full h) ∙ k .kept ∙ sym (take-append-le most m (x ∷ []) h);
           }
+
+      pub stored-length : length (stored x (stateAfter m) area) ≡ length area
+      stored-length = go (ltb (length (take most m)) most) refl
+        where
+          go : (b : Bool) → ltb (length (take most m)) most ≡ b → length (cond b (laid area (length (take most m)) (x ∷ [])) area) ≡ length area
+          go true e = length-laid area (length (take most m)) (x ∷ []) (omega (arith, ltb-true (length (take most m)) most e, k .roomy))
+          go false e = refl
 
       pub keeps-octet : Keeps (m ++ x ∷ []) (stored x (stateAfter m) area)
       keeps-octet = go (ltb (length m) most) refl

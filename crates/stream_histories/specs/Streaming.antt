@@ -31,7 +31,7 @@ replies (g ∷ gs) t = next g t .reply ∷ replies gs (next g t)
 abbrev pub begun : List ℕ → Record → List ℕ → Turn
 begun area r b = record { reply = waits; state = empty; area = area; after = r; buffer = b }
 
--- octets, one after the other
+-- octets, one after the other, for a run by itself (`alone`)
 unfoldable pub octets : List ℕ → List Given
 octets [] = []
 octets (x ∷ xs) = Octet x ∷ octets xs
@@ -63,7 +63,8 @@ atEnds (End ∷ gs) (a ∷ said) = answers a ∷ atEnds gs said
 abbrev pub stateAfter : List ℕ → State
 stateAfter m = record { count = length (take most m); more = ltb most (length m) }
 
--- what holds after any octets and ends that go on from t, where the octets m have come since the last end
+-- what holds after any octets and ends that go on from t, where the octets m have come since the last end; as it holds of all of them, it holds of
+-- each front of them, so after each end
 pub record Holds (gs : List Given) (m : List ℕ) (t : Turn) : Type 0 where
   -- "up to an end it answers only that it waits; at the end its answer, record and assembly buffer equal those of the first receiver on the octets
   -- since the last end"
@@ -73,3 +74,5 @@ pub record Holds (gs : List Given) (m : List ℕ) (t : Turn) : Type 0 where
   -- "beyond 1,530 it counts no octet but remembers that there were more": the state, and the octets of the area that it counts
   pub state : leftBy gs t .state ≡ stateAfter (since m gs)
   pub kept : take (length (take most (since m gs))) (leftBy gs t .area) ≡ take most (since m gs)
+  -- the area stays as long as it was
+  pub room : length (leftBy gs t .area) ≡ length (t .area)
