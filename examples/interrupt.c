@@ -95,8 +95,10 @@ static void use(const uint8_t *area, uint32_t count, uint32_t answer, uint32_t d
 		break;
 	case SEATPORT_ANSWER_VERIFY_HEARD:
 	case SEATPORT_ANSWER_RESPOND_HEARD:
-		seatport_step(&link_state, answer, &ordered);
-		printf("link verification, a response is %s\n", link_state.owed ? "owed" : "not owed");
+		if (seatport_step(&link_state, answer, SEATPORT_WAIT_NONE, &ordered) != SEATPORT_STEPPED_TAKEN)
+			puts("link verification, refused: is the link all zero?");
+		else
+			printf("link verification, a response is %s\n", link_state.owed ? "owed" : "not owed");
 		break;
 	default:
 		printf("answer %u\n", (unsigned)answer);

@@ -1,10 +1,10 @@
 /* seatport.h: IEEE 802.3br frame preemption in software, for a port that has none in its hardware.
  *
  * Each function is one call of document 01, "The seat port and its rules", or of document 02: on the hall's schedule of
- * its (i), receiving as octets come of its (iv). Where a frame is cut is told by document 02, (ii). A function works on
- * memory that the caller lends for the length of the call and keeps nothing: no allocation, no statics, no working memory
- * but some stack. Several ports, or calls from several threads, need nothing but records, streams and lent memory of their
- * own.
+ * its (i), receiving as octets come of its (iv). Where a frame is cut is told by document 02, (ii), how long link
+ * verification waits by its (v). A function works on memory that the caller lends for the length of the call and keeps
+ * nothing: no allocation, no statics, no working memory but some stack. Several ports, or calls from several threads, need
+ * nothing but records, streams and lent memory of their own.
  *
  * +----------------------------------------------------------------------------------------------------------------------+
  * | Fragments, V and R are understood only by ports built from this code. Their check octets, the mCRC, are those of     |
@@ -27,11 +27,17 @@
  *
  * Lengths are uint64_t on every machine. All fields of a record are uint32_t; a flag is 0 or 1. Values that fit no record
  * are refused by number and change neither record nor buffer; what the call hands back beside its number (*written,
- * *detail, *ordered) is then 0. A record that is all zero is fresh: write
- *     struct seatport_sender s = SEATPORT_SENDER_FRESH;
- * and set active, hold and extra as you need them. A stream (receiving as octets come) has such fields too, and is empty
- * where it is all zero. The calls on the hall's schedule have no record; what they hand back beside a refusal's number is
- * said there, and the fields of their events are uint64_t.
+ * *detail, *ordered) is then 0. For fresh records write
+ *     struct seatport_sender sender = SEATPORT_SENDER_FRESH;
+ *     struct seatport_receiver receiver = SEATPORT_RECEIVER_FRESH;
+ *     struct seatport_link link = SEATPORT_LINK_FRESH;
+ * and set the sender's active, hold and extra as you need them. A sender or a receiver that is all zero is fresh too. A
+ * link that is all zero is not: its wait is 0, which is no wait, so that every event is refused with 40, the link is never
+ * verified and no V is answered. So neither memset nor a static without an initializer makes a link.
+ *
+ * A stream (receiving as octets come) has such fields too, and is empty where it is all zero. The calls on the hall's
+ * schedule have no record; what they hand back beside a refusal's number is said there, and the fields of their events are
+ * uint64_t.
  */
 #ifndef SEATPORT_H
 #define SEATPORT_H
@@ -45,14 +51,18 @@
  *   2.0  the earliest cut lies four octets sooner than in 1, since the mCRC counts (extra, below). With extra 0, bodies of
  *        120 to 123 octets can now be cut, the shortest mFrame that does not end its frame has 72 octets (76 in 1), and the
  *        longest body can go in 25 mFrames (23 in 1). Receiving is as in 1: ports of both versions understand each other.
- *   2.1  receiving as octets come */
-#define SEATPORT_VERSION_MAJOR 2
-#define SEATPORT_VERSION_MINOR 1
+ *   2.1  receiving as octets come
+ *   3.0  the verification wait can be set. What was written for 2 has to change: seatport_step takes the wait behind the
+ *        event; SEATPORT_STEPPED_REFUSED is now SEATPORT_STEPPED_RECORD_BAD, and 41 is new; struct seatport_link has a fifth
+ *        word, the wait, and begins as SEATPORT_LINK_FRESH. One that is all zero was fresh in 2 and is refused now;
+ *        no compiler notices. With SEATPORT_WAIT_USUAL at each enable, verification does what it did in 2. */
+#define SEATPORT_VERSION_MAJOR 3
+#define SEATPORT_VERSION_MINOR 0
 
-/* Fresh records and an empty stream, in C and in C++. */
+/* Fresh records and an empty stream, in C and in C++. The link's last word is its wait. */
 #define SEATPORT_SENDER_FRESH { 0, 0, 0, 0, 0, 0, 0 }
 #define SEATPORT_RECEIVER_FRESH { 0, 0, 0, 0, 0, 0, 0, 0, 0 }
-#define SEATPORT_LINK_FRESH { 0, 0, 0, 0 }
+#define SEATPORT_LINK_FRESH { 0, 0, 0, 0, 10 }
 #define SEATPORT_STREAM_EMPTY { 0, 0 }
 
 #ifdef __cplusplus
@@ -240,9 +250,22 @@ enum seatport_phase {
 	SEATPORT_PHASE_FAILED = 3
 };
 
+/* The wait: how many milliseconds an attempt waits for an R. IEEE 802.3br allows 1 to 128. Each enable brings a wait; the
+ * record keeps the one with which off became trying, and every attempt begins with it. 10 is the usual one. A long row with
+ * repeaters needs more: let it be a millisecond longer than a V takes to the other end and its R back (the first one told
+ * may be half over already), so that each of the three V has its time. An R is taken as long as the link is trying,
+ * whichever V it answers. The two ends need not have the same wait. examples/verification.c shows such a row. */
+enum seatport_wait {
+	SEATPORT_WAIT_NONE = 0,   /* for any event but enable; it is not looked at. With enable it is refused */
+	SEATPORT_WAIT_MIN = 1,
+	SEATPORT_WAIT_USUAL = 10, /* that of a fresh link, too */
+	SEATPORT_WAIT_MAX = 128
+};
+
 /* What an event does. What was heard has the number of the answer of seatport_receive or seatport_end that tells it, so that
- * the answer can be handed on as it is; no other answer is an event: seatport_step then returns 40, leaves the record as it
- * was and sets *ordered to 0. */
+ * the answer can be handed on as it is:
+ *     seatport_step(&link, answer, SEATPORT_WAIT_NONE, &ordered);
+ * No other answer is an event: seatport_step then returns 40, leaves the record as it was and sets *ordered to 0. */
 enum seatport_event {
 	/* in any phase: a response is owed */
 	SEATPORT_EVENT_VERIFY_HEARD = SEATPORT_ANSWER_VERIFY_HEARD,
@@ -250,33 +273,41 @@ enum seatport_event {
 	SEATPORT_EVENT_RESPOND_HEARD = SEATPORT_ANSWER_RESPOND_HEARD,
 	/* nothing is owed any more */
 	SEATPORT_EVENT_RESPONSE_SENT = 5,
-	/* tell every millisecond. In trying one less is left; at none, attempts 1 and 2 order a V and the next begins with 10,
-	 * attempt 3 becomes failed. In any other phase nothing */
+	/* tell every millisecond. In trying one less is left; at none, attempts 1 and 2 order a V and the next begins with
+	 * the kept wait, attempt 3 becomes failed: trying lasts at most three times the wait. In any other phase nothing */
 	SEATPORT_EVENT_MILLISECOND = 6,
-	/* off becomes trying, and a V is ordered; in any other phase nothing: to try again, disable first */
+	/* off becomes trying, this wait is kept, and a V is ordered; in any other phase nothing, and the wait kept before
+	 * stays: to try again, or with another wait, disable first. A wait that is not SEATPORT_WAIT_MIN to
+	 * SEATPORT_WAIT_MAX is refused with 41 in every phase */
 	SEATPORT_EVENT_ENABLE = 7,
-	/* off */
+	/* off; the kept wait stays */
 	SEATPORT_EVENT_DISABLE = 8,
-	/* off, and nothing is owed */
+	/* off, and nothing is owed; the kept wait stays */
 	SEATPORT_EVENT_LINK_FAILED = 9
 };
 
-/* What seatport_step returns. */
+/* What seatport_step returns. A refused call leaves the record as it was and sets *ordered to 0. */
 enum seatport_stepped {
 	SEATPORT_STEPPED_TAKEN = 0,
-	SEATPORT_STEPPED_REFUSED = 40 /* record outside its ranges, or no such event: the record stays as it was */
+	SEATPORT_STEPPED_RECORD_BAD = 40, /* record outside its ranges, as one that is all zero is, or no such event */
+	SEATPORT_STEPPED_WAIT_BAD = 41    /* enable, and its wait is not 1 to 128; tested after 40, in every phase */
 };
 
+/* What link verification keeps between calls. It begins as SEATPORT_LINK_FRESH. Do not clear it with memset: one that is all
+ * zero is refused with 40 at every event, since its wait is 0, and no event mends it. To begin anew, assign a fresh one:
+ *     static const struct seatport_link fresh = SEATPORT_LINK_FRESH;
+ *     link = fresh; */
 struct seatport_link {
 	uint32_t phase;   /* enum seatport_phase */
 	uint32_t attempt; /* in trying 1 to 3, else 0 */
-	uint32_t left;    /* in trying the milliseconds left, 1 to 10, else 0 */
+	uint32_t left;    /* in trying the milliseconds left of this attempt, 1 to wait, else 0 */
 	uint32_t owed;    /* a response is owed: send an R, then tell SEATPORT_EVENT_RESPONSE_SENT */
+	uint32_t wait;    /* the wait that is kept, 1 to 128 in every phase; in off the next enable brings its own */
 };
 
-/* One event. *ordered becomes 1 if a V is to be sent now, else 0: look at it after each call, the next one sets it anew.
- * Returns 0 or 40. */
-uint32_t seatport_step(struct seatport_link *link, uint32_t event, uint32_t *ordered);
+/* One event, with the wait if it is enable; with any other event the wait may be any number. *ordered becomes 1 if a V is to
+ * be sent now, else 0: look at it after each call, the next one sets it anew. Returns 0, 40 or 41. */
+uint32_t seatport_step(struct seatport_link *link, uint32_t event, uint32_t wait, uint32_t *ordered);
 
 /* ---- House trace ---------------------------------------------------------------------------------------------------- */
 
@@ -397,7 +428,7 @@ typedef char seatport_sender_is_7_words[sizeof(struct seatport_sender) == 7 * 4 
 typedef char seatport_receiver_is_9_words[sizeof(struct seatport_receiver) == 9 * 4 ? 1 : -1];
 typedef char seatport_part_is_2_words[sizeof(struct seatport_part) == 2 * 4 ? 1 : -1];
 typedef char seatport_stream_is_2_words[sizeof(struct seatport_stream) == 2 * 4 ? 1 : -1];
-typedef char seatport_link_is_4_words[sizeof(struct seatport_link) == 4 * 4 ? 1 : -1];
+typedef char seatport_link_is_5_words[sizeof(struct seatport_link) == 5 * 4 ? 1 : -1];
 typedef char seatport_content_is_3_words[sizeof(struct seatport_content) == 3 * 4 ? 1 : -1];
 typedef char seatport_entry_is_3_words[sizeof(struct seatport_entry) == 3 * 4 ? 1 : -1];
 typedef char seatport_gate_event_is_2_long_words[sizeof(struct seatport_gate_event) == 2 * 8 ? 1 : -1];

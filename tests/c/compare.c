@@ -329,23 +329,29 @@ static void damage(void)
 	}
 }
 
-/* The answer handed on as an event: a V or an R is heard by it, and any other answer is refused and leaves the record as it was. */
+/* The answer handed on as an event: a V or an R is heard by it, and any other answer is refused and leaves the record as it
+ * was, whatever the wait that is handed in. */
 static void hand_on(uint32_t answer)
 {
-	const struct seatport_link trying = { SEATPORT_PHASE_TRYING, 1, 10, 0 };
-	struct seatport_link expected = trying, link = trying;
-	uint32_t ordered = 7, number = SEATPORT_STEPPED_TAKEN;
+	static const uint32_t waits[] = { SEATPORT_WAIT_NONE, SEATPORT_WAIT_USUAL, SEATPORT_WAIT_MAX + 1, 0xffffffff };
+	const struct seatport_link trying = { SEATPORT_PHASE_TRYING, 1, 40, 0, 40 };
+	struct seatport_link expected = trying;
+	uint32_t number = SEATPORT_STEPPED_TAKEN;
 	if (answer == SEATPORT_ANSWER_VERIFY_HEARD) {
 		expected.owed = 1;
 	} else if (answer == SEATPORT_ANSWER_RESPOND_HEARD) {
 		expected.phase = SEATPORT_PHASE_VERIFIED;
 		expected.attempt = expected.left = 0;
 	} else {
-		number = SEATPORT_STEPPED_REFUSED;
+		number = SEATPORT_STEPPED_RECORD_BAD;
 	}
-	if (seatport_step(&link, answer, &ordered) != number || ordered != 0)
-		fail("the answer handed on is taken as another event");
-	same(&link, &expected, sizeof link, "another verification record, the answer handed on");
+	for (size_t i = 0; i < sizeof waits / sizeof waits[0]; i++) {
+		struct seatport_link link = trying;
+		uint32_t ordered = 7;
+		if (seatport_step(&link, answer, waits[i], &ordered) != number || ordered != 0)
+			fail("the answer handed on is taken as another event");
+		same(&link, &expected, sizeof link, "another verification record, the answer handed on");
+	}
 }
 
 /* The mFrame given to both. */
@@ -415,34 +421,115 @@ static void receive_all(void)
 
 /* Verification */
 
+/* A wait, often about a limit, or a number that is none: a wait with a bit too many, say. */
+static uint32_t some_wait(void)
+{
+	uint32_t good = between(SEATPORT_WAIT_MIN, SEATPORT_WAIT_MAX);
+	switch (chance(8)) {
+	case 0:
+		return near(SEATPORT_WAIT_MIN, 256);
+	case 1:
+		return near(SEATPORT_WAIT_MAX, 256);
+	case 2:
+		return good | (uint32_t)1 << between(8, 31);
+	case 3:
+		return odd_word();
+	default:
+		return good;
+	}
+}
+
+/* A record as some history leaves it, or nearly so; in trying often with the most or the fewest milliseconds left. */
+static struct plain_link some_link(void)
+{
+	struct plain_link l = { 0, 0, 0, 0, 0 };
+	l.phase = chance(4);
+	l.owed = chance(2);
+	l.wait = some_wait();
+	if (l.phase == PLAIN_TRYING) {
+		l.attempt = between(1, 3);
+		l.left = near(one_in(2) ? l.wait : 1, SEATPORT_WAIT_MAX + 2);
+	}
+	return l;
+}
+
+/* An event told to both. */
+static uint32_t step_one(struct plain_link *plain, uint32_t event, uint32_t wait, bool *ordered)
+{
+	struct seatport_link port;
+	uint32_t port_ordered = 7;
+	*ordered = false;
+	memcpy(&port, plain, sizeof port);
+	uint32_t number = seatport_step(&port, event, wait, &port_ordered);
+	answered(number, plain_event(plain, event, wait, ordered));
+	same(&port, plain, sizeof port, "another verification record");
+	if (port_ordered != (*ordered ? 1 : 0))
+		fail("V ordered by one alone");
+	return number;
+}
+
+static void each_phase(const char *what, const unsigned *times)
+{
+	printf("%-12s %s: off %u, trying %u, verified %u, failed %u\n", "", what, times[0], times[1], times[2], times[3]);
+	if (times[0] == 0 || times[1] == 0 || times[2] == 0 || times[3] == 0)
+		fail("a phase was never reached");
+}
+
+/* Events, each told to what the one before left, or to another record. */
 static void step_all(void)
 {
-	static const unsigned numbers[] = { 0, 40 };
-	struct plain_link plain = { 0, 0, 0, 0 };
-	struct seatport_link port;
-	unsigned orders = 0, phases[4] = { 0, 0, 0, 0 };
+	static const unsigned numbers[] = { 0, 40, 41 };
+	struct plain_link plain = { 0, 0, 0, 0, 10 };
+	unsigned after[4] = { 0, 0, 0, 0 }, wait_bad[4] = { 0, 0, 0, 0 }, orders = 0, least = 0, most = 0;
+	bool ordered;
 	call = "step";
 	for (turn = 0; turn < STEPS; turn++) {
 		struct plain_link before = plain;
-		uint32_t event = one_in(30) ? odd_word() : one_in(8) ? between(PLAIN_V_HEARD, PLAIN_LINK_FAILED) : PLAIN_MILLISECOND;
-		uint32_t port_ordered = 7;
-		bool ordered = false, broken = one_in(10);
-		if (broken)
-			spoil(&plain, 4);
-		memcpy(&port, &plain, sizeof port);
-		answered(seatport_step(&port, event, &port_ordered), plain_event(&plain, event, &ordered));
-		same(&port, &plain, sizeof port, "another verification record");
-		if (port_ordered != (ordered ? 1 : 0))
-			fail("V ordered by one alone");
+		uint32_t event = one_in(30) ? odd_word() : one_in(3) ? between(PLAIN_V_HEARD, PLAIN_LINK_FAILED) : PLAIN_MILLISECOND;
+		uint32_t wait = some_wait();
+		if (one_in(6))
+			plain = some_link();
+		if (one_in(10))
+			spoil(&plain, 5);
+		uint32_t number = step_one(&plain, event, wait, &ordered);
 		orders += ordered;
-		if (broken)
+		if (ordered && event == PLAIN_ENABLE) {
+			least += plain.wait == SEATPORT_WAIT_MIN;
+			most += plain.wait == SEATPORT_WAIT_MAX;
+		}
+		if (number == SEATPORT_STEPPED_TAKEN)
+			after[plain.phase]++;
+		else if (number == SEATPORT_STEPPED_WAIT_BAD)
+			wait_bad[plain.phase]++;
+		if (number != SEATPORT_STEPPED_TAKEN)
 			plain = before;
-		phases[plain.phase]++;
 	}
 	reached("verification", numbers, sizeof numbers / sizeof numbers[0]);
-	printf("%-12s %u ordered, off %u, trying %u, verified %u, failed %u\n", "", orders, phases[0], phases[1], phases[2], phases[3]);
-	if (orders == 0 || phases[1] == 0 || phases[2] == 0 || phases[3] == 0)
-		fail("a phase was never reached");
+	each_phase("after an event", after);
+	each_phase("wait refused in", wait_bad);
+	printf("%-12s %u V ordered; begun with a wait of 1: %u, of 128: %u\n", "", orders, least, most);
+	if (least == 0 || most == 0)
+		fail("the least or the greatest wait was never kept");
+}
+
+/* A link that nobody answers, with every wait: three V are ordered a wait apart, and a wait after the third it has failed. */
+static void fail_all(void)
+{
+	static const unsigned numbers[] = { 0 };
+	call = "step until failed";
+	for (turn = SEATPORT_WAIT_MIN; turn <= SEATPORT_WAIT_MAX; turn++) {
+		struct plain_link plain = { 0, 0, 0, 0, 10 };
+		bool ordered;
+		step_one(&plain, PLAIN_ENABLE, turn, &ordered);
+		for (uint32_t past = 0; past < 3 * turn; past++) {
+			if (plain.phase != PLAIN_TRYING || ordered != (past % turn == 0))
+				fail("a V too early or too late, or failed too early");
+			step_one(&plain, PLAIN_MILLISECOND, SEATPORT_WAIT_NONE, &ordered);
+		}
+		if (plain.phase != PLAIN_FAILED || ordered)
+			fail("not failed after three waits");
+	}
+	reached("unanswered", numbers, sizeof numbers / sizeof numbers[0]);
 }
 
 /* Trace */
@@ -811,6 +898,7 @@ int main(void)
 	send_all();
 	receive_all();
 	step_all();
+	fail_all();
 	trace_all();
 	gates_read_all();
 	gates_write_all();

@@ -1,10 +1,24 @@
 /* The header alone, as C99 and as C++98: it compiles without a warning, its functions link under their names, its version is
- * a number for the preprocessor, and records and entries written as it says are taken by each call. */
+ * a number for the preprocessor, and records and entries written as it says are taken by each call. A link that is all zero
+ * is refused by every event, and stays so. */
 #include "seatport.h"
 
-#if 100 * SEATPORT_VERSION_MAJOR + SEATPORT_VERSION_MINOR < 201
-#error "receiving as octets come came with version 2.1"
+#if 100 * SEATPORT_VERSION_MAJOR + SEATPORT_VERSION_MINOR < 300
+#error "the wait of link verification came with version 3.0"
 #endif
+
+static int zero_link_refused(void)
+{
+	static struct seatport_link link;
+	for (uint32_t event = SEATPORT_EVENT_VERIFY_HEARD; event <= SEATPORT_EVENT_LINK_FAILED; event++) {
+		uint32_t ordered = 7;
+		if (seatport_step(&link, event, SEATPORT_WAIT_USUAL, &ordered) != SEATPORT_STEPPED_RECORD_BAD || ordered != 0)
+			return 0;
+		if (link.phase != 0 || link.attempt != 0 || link.left != 0 || link.owed != 0 || link.wait != 0)
+			return 0;
+	}
+	return 1;
+}
 
 int main(void)
 {
@@ -24,7 +38,7 @@ int main(void)
 		return 1;
 	if (seatport_receive(&receiver, output, written.length, buffer, sizeof buffer, &detail) != SEATPORT_ANSWER_EXPRESS)
 		return 2;
-	if (seatport_step(&link, SEATPORT_EVENT_ENABLE, &ordered) != SEATPORT_STEPPED_TAKEN)
+	if (seatport_step(&link, SEATPORT_EVENT_ENABLE, SEATPORT_WAIT_USUAL, &ordered) != SEATPORT_STEPPED_TAKEN)
 		return 3;
 	if (seatport_gates_write(&entry, 1, list, sizeof list, &count) != SEATPORT_GATES_GOOD || count != sizeof list)
 		return 4;
@@ -37,5 +51,7 @@ int main(void)
 			return 7;
 	if (seatport_end(&stream, area, sizeof area, &receiver, buffer, sizeof buffer, &detail) != SEATPORT_ANSWER_EXPRESS)
 		return 8;
+	if (link.wait != SEATPORT_WAIT_USUAL || !zero_link_refused())
+		return 9;
 	return 0;
 }

@@ -1,4 +1,4 @@
-/* Document 01, and document 02, (i) and (iv), in plain C; plain.h says what for. */
+/* Document 01, and document 02, (i), (iv) and (v), in plain C; plain.h says what for. */
 #include "plain.h"
 
 #include <string.h>
@@ -432,14 +432,19 @@ int plain_end(struct plain_stream *s, const uint8_t *area, size_t size, struct p
 
 /* Verification */
 
-enum { ATTEMPTS = 3, WAIT = 10 };
+enum { ATTEMPTS = 3, WAIT_MIN = 1, WAIT_MAX = 128 };
+
+static bool is_wait(uint32_t milliseconds)
+{
+	return milliseconds >= WAIT_MIN && milliseconds <= WAIT_MAX;
+}
 
 static bool link_in_range(const struct plain_link *l)
 {
-	if (l->owed > 1)
+	if (l->owed > 1 || !is_wait(l->wait))
 		return false;
 	if (l->phase == PLAIN_TRYING)
-		return l->attempt >= 1 && l->attempt <= ATTEMPTS && l->left >= 1 && l->left <= WAIT;
+		return l->attempt >= 1 && l->attempt <= ATTEMPTS && l->left >= 1 && l->left <= l->wait;
 	return l->phase <= PLAIN_FAILED && l->attempt == 0 && l->left == 0;
 }
 
@@ -450,15 +455,18 @@ static void enter(struct plain_link *l, enum plain_phase phase, uint32_t attempt
 	l->left = left;
 }
 
-int plain_event(struct plain_link *l, uint32_t event, bool *ordered)
+int plain_event(struct plain_link *l, uint32_t event, uint32_t wait, bool *ordered)
 {
 	if (!link_in_range(l) || event < PLAIN_V_HEARD || event > PLAIN_LINK_FAILED)
 		return 40;
+	if (event == PLAIN_ENABLE && !is_wait(wait))
+		return 41;
 	*ordered = false;
 	switch ((enum plain_event)event) {
 	case PLAIN_ENABLE:
 		if (l->phase == PLAIN_OFF) {
-			enter(l, PLAIN_TRYING, 1, WAIT);
+			l->wait = wait;
+			enter(l, PLAIN_TRYING, 1, wait);
 			*ordered = true;
 		}
 		break;
@@ -486,7 +494,7 @@ int plain_event(struct plain_link *l, uint32_t event, bool *ordered)
 		if (l->left != 0)
 			break;
 		if (l->attempt < ATTEMPTS) {
-			enter(l, PLAIN_TRYING, l->attempt + 1, WAIT);
+			enter(l, PLAIN_TRYING, l->attempt + 1, l->wait);
 			*ordered = true;
 		} else {
 			enter(l, PLAIN_FAILED, 0, 0);

@@ -1,7 +1,7 @@
-/* The calls of document 01, and those of document 02, (i) and (iv), a second time, in plain C. It shares no code with the
- * port: tests/c/compare.c holds the port against it octet for octet, and the benchmarks measure the port beside it. It is
- * written as one would write it for a small board: a table for the check octets, memcpy, records that the caller keeps, no
- * allocation. */
+/* The calls of document 01, and those of document 02, (i), (iv) and (v), a second time, in plain C. It shares no code with
+ * the port: tests/c/compare.c holds the port against it octet for octet, and the benchmarks measure the port beside it. It
+ * is written as one would write it for a small board: a table for the check octets, memcpy, records that the caller keeps,
+ * no allocation. */
 #ifndef PLAIN_H
 #define PLAIN_H
 
@@ -32,8 +32,9 @@ struct plain_stream {
 
 enum plain_phase { PLAIN_OFF, PLAIN_TRYING, PLAIN_VERIFIED, PLAIN_FAILED };
 
+/* The verification record. The wait is the one that is kept, 10 where it is fresh. */
 struct plain_link {
-	uint32_t phase, attempt, left, owed;
+	uint32_t phase, attempt, left, owed, wait;
 };
 
 /* What was heard has the number of the receiver's answer; the others have numbers that no answer has. */
@@ -85,8 +86,8 @@ int plain_octet(struct plain_stream *stream, uint8_t *area, size_t size, uint8_t
 int plain_end(struct plain_stream *stream, const uint8_t *area, size_t size, struct plain_receiver *receiver,
 	      uint8_t *buffer, size_t room, uint32_t *detail);
 
-/* Verification: 0 and whether a V is ordered, or 40. */
-int plain_event(struct plain_link *link, uint32_t event, bool *ordered);
+/* Verification: 0 and whether a V is ordered, or 40, or 41. The wait is enable's; of other events it is not looked at. */
+int plain_event(struct plain_link *link, uint32_t event, uint32_t wait, bool *ordered);
 
 /* The record of a trace at a place: 0, PLAIN_TRACE_END, or the number of the refusal. */
 int plain_trace(const uint8_t *trace, size_t n, size_t at, struct plain_content *content);

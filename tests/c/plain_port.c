@@ -83,14 +83,24 @@ uint32_t seatport_end(struct seatport_stream *stream, const uint8_t *area, uint6
 	return (uint32_t)number;
 }
 
-uint32_t seatport_step(struct seatport_link *link, uint32_t event, uint32_t *ordered)
+uint32_t seatport_step(struct seatport_link *link, uint32_t event, uint32_t wait, uint32_t *ordered)
 {
 	struct plain_link record;
 	bool order = false;
 	memcpy(&record, link, sizeof record);
-	int number = plain_event(&record, event, &order);
+	int number = plain_event(&record, event, wait, &order);
 	memcpy(link, &record, sizeof record);
 	*ordered = order;
+	return (uint32_t)number;
+}
+
+uint32_t seatport_trace(const uint8_t *trace, uint64_t length, struct seatport_content *content)
+{
+	struct plain_content found = { 0, 0, 0 };
+	int number = plain_trace(trace, (size_t)length, 0, &found);
+	content->start = (uint32_t)found.start;
+	content->length = (uint32_t)found.length;
+	content->next = (uint32_t)found.next;
 	return (uint32_t)number;
 }
 

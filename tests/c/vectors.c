@@ -349,12 +349,13 @@ static void stream_questions(void)
 
 static void step(struct seatport_link *l)
 {
-	uint32_t ordered, refusal = seatport_step(l, word(1), &ordered);
+	uint32_t event = word(1), wait = word(4), ordered;
+	uint32_t refusal = seatport_step(l, event, wait, &ordered);
 	if (refusal != 0)
 		printf("refused %" PRIu32, refusal);
 	else
 		printf("%" PRIu32, ordered);
-	printf(" %" PRIu32 " %" PRIu32 " %" PRIu32 " %" PRIu32 "\n", l->phase, l->attempt, l->left, l->owed);
+	printf(" %" PRIu32 " %" PRIu32 " %" PRIu32 " %" PRIu32 " %" PRIu32 "\n", l->phase, l->attempt, l->left, l->owed, l->wait);
 }
 
 static void verify_questions(void)
@@ -367,6 +368,7 @@ static void verify_questions(void)
 			link.attempt = word(1);
 			link.left = word(1);
 			link.owed = word(1);
+			link.wait = word(1);
 			break;
 		case 2:
 			step(&link);

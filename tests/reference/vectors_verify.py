@@ -1,4 +1,4 @@
-"""Makes the stored questions and answers on document 01's "Verification".
+"""Makes the stored questions and answers on document 01's "Verification" and document 02's request (v).
 
     python3 tests/reference/vectors_verify.py            writes both files
     python3 tests/reference/vectors_verify.py --check    writes nothing, compares

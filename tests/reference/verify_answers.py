@@ -1,4 +1,4 @@
-"""Answers questions on document 01's "Verification" in lines of text.
+"""Answers questions on document 01's "Verification" and document 02's request (v) in lines of text.
 
 The questions are read back from their octets, so that what is stored is what was answered.
 """
@@ -17,6 +17,11 @@ def outcome(answer):
             return f"refused {number}"
 
 
+def words(record):
+    """The record's five numbers, in the order of the question that sets it."""
+    return f"{record.phase.value} {record.attempt} {record.left} {int(record.owed)} {record.wait}"
+
+
 class Answering:
     """The kept record, and the lines that answer one question after the other."""
 
@@ -27,14 +32,13 @@ class Answering:
         """The lines that answer the next question: one, or none where it only sets what is kept."""
         kind = reader.single_octet()
         if kind == layout.RECORD:
-            phase, attempt, left, owed = reader.fields(layout.RECORD_FIELDS)
-            self.record = verification.VerificationRecord(verification.Phase(phase), attempt, left, as_flag(owed))
+            phase, attempt, left, owed, wait = reader.fields(layout.RECORD_FIELDS)
+            self.record = verification.VerificationRecord(verification.Phase(phase), attempt, left, as_flag(owed), wait)
             return []
         if kind == layout.EVENT:
-            event = verification.Event(*reader.fields(layout.EVENT_FIELD))
-            answer, self.record = verification.happen(self.record, event)
-            record = self.record
-            return [f"{outcome(answer)} {record.phase.value} {record.attempt} {record.left} {int(record.owed)}"]
+            event, wait = reader.fields(layout.EVENT_FIELDS)
+            answer, self.record = verification.happen(self.record, verification.Event(event), wait)
+            return [f"{outcome(answer)} {words(self.record)}"]
         raise ValueError(f"no question begins with octet {kind}")
 
 

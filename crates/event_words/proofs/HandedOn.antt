@@ -1,7 +1,9 @@
--- An answer of the receiver can be handed on as an event: a V or an R heard is that event, and no other answer is an event.
+-- An answer of the receiver can be handed on as an event, whatever wait stands beside it: a V or an R heard is that event, and no other answer is an
+-- event.
 -- Assumes nothing.
 use mathlib.Core.Path.{_≡_, refl}
 use mathlib.Core.Bool.{false}
+use Prim.Native.Nat.{ℕ}
 use Rattle.faults.specs.Faults.{faultNumber}
 use Rattle.faults.specs.declared.Fault.{Fault}
 use Rattle.faults.specs.declared.Fault.the-variants as F
@@ -39,12 +41,12 @@ no-drop D.Count = refl
 no-drop D.Over = refl
 no-drop D.Damaged = refl
 
-pub handed-on : (a : Answer) → eventAt (said a .number) ≡ heardBy a
+pub handed-on : (a : Answer) (wait : ℕ) → eventAt (said a .number) wait ≡ heardBy a
 unfolding isEvent
-handed-on (A.Express n) = refl
-handed-on (A.Delivered n) = refl
-handed-on (A.Kept n) = refl
-handed-on A.VerifyHeard = refl
-handed-on A.RespondHeard = refl
-handed-on (A.Refused why) = simp (no-refusal why)
-handed-on (A.Dropped why) = simp (no-drop why)
+handed-on (A.Express n) wait = refl
+handed-on (A.Delivered n) wait = refl
+handed-on (A.Kept n) wait = refl
+handed-on A.VerifyHeard wait = refl
+handed-on A.RespondHeard wait = refl
+handed-on (A.Refused why) wait = simp (no-refusal why)
+handed-on (A.Dropped why) wait = simp (no-drop why)

@@ -14,8 +14,8 @@ pub is-event-once : (n : ℕ) {x y : Bool} → x ≡ isEvent n → y ≡ isEvent
 is-event-once n p q = p ∙ sym q
 
 -- event_of
-pub event-of-once : (n : ℕ) {x y : Event} → x ≡ eventOf n → y ≡ eventOf n → x ≡ y
-event-of-once n p q = p ∙ sym q
+pub event-of-once : (n wait : ℕ) {x y : Event} → x ≡ eventOf n wait → y ≡ eventOf n wait → x ≡ y
+event-of-once n wait p q = p ∙ sym q
 
 -- number_of
 pub number-of-once : (a : Answer) {x y : ℕ} → x ≡ said a .number → y ≡ said a .number → x ≡ y

@@ -9,9 +9,9 @@ use Rattle.verify.specs.declared.Event.{Event}
 use Rattle.verify.specs.declared.Event.the-variants as E
 use Rattle.event_words.specs.Events.{isEvent, eventOf}
 
--- the event that a number is, if any
-abbrev pub eventAt : ℕ → Option Event
-eventAt n = cond (isEvent n) (some (eventOf n)) none
+-- the event that a number is, with a wait beside it, if any
+abbrev pub eventAt : ℕ → ℕ → Option Event
+eventAt n wait = cond (isEvent n) (some (eventOf n wait)) none
 
 -- the event that an answer tells: a V or an R heard, and nothing else
 abbrev pub heardBy : Answer → Option Event

@@ -16,16 +16,16 @@ pub fn is_event(n: u32) -> bool
     n <= 9
 }
 
-// The event that it then is.
-pub fn event_of(n: u32) -> Event
-    ensures { λ r. ⌜ r ≡ eventOf n ⌝ }
+// The event that it then is; the wait is an enable's, and no other event looks at it.
+pub fn event_of(n: u32, wait: u32) -> Event
+    ensures { λ r. ⌜ r ≡ eventOf n wait ⌝ }
 {
     match n {
         3 => Event::VerifyHeard,
         4 => Event::ResponseHeard,
         5 => Event::ResponseSent,
         6 => Event::Millisecond,
-        7 => Event::Enable,
+        7 => Event::Enable(wait),
         8 => Event::Disable,
         _ => Event::LinkFailed,
     }
@@ -37,7 +37,7 @@ pub fn number_of(answer: Answer) -> u32
 {
     match answer {
         Answer::Taken(_) => 0,
-        Answer::Refused => 40,
+        Answer::Refused(why) => why.number(),
     }
 }
 
@@ -47,6 +47,6 @@ pub fn ordered_of(answer: Answer) -> u32
 {
     match answer {
         Answer::Taken(ordered) => words::flag(ordered),
-        Answer::Refused => 0,
+        Answer::Refused(_) => 0,
     }
 }

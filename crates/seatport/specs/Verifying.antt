@@ -22,8 +22,8 @@ told t = record { number = t .said .number; ordered = flag (t .said .ordered); l
 abbrev pub unfit : List ℕ → Verifying
 unfit w = record { number = 40; ordered = 0; link = w }
 
-unfoldable pub verifyingOf : List ℕ → ℕ → Verifying
-verifyingOf w event = cond (linkFits w && isEvent event) (told (stepOf (linkOf w) (eventOf event))) (unfit w)
+unfoldable pub verifyingOf : List ℕ → ℕ → ℕ → Verifying
+verifyingOf w event wait = cond (linkFits w && isEvent event) (told (stepOf (linkOf w) (eventOf event wait))) (unfit w)
 
 -- the promise of the event: the number, whether a V is ordered, and the record's words
 pub record Taken (p : Verifying) (number ordered : ℕ) (link : List ℕ) : Type 0 where

@@ -40,7 +40,10 @@ fn say_answer(answer: Answer) {
                 say::text(b"0");
             }
         }
-        Answer::Refused => say::text(b"refused 40"),
+        Answer::Refused(why) => {
+            say::text(b"refused");
+            say::number(why.number() as u64);
+        }
     }
 }
 
@@ -50,6 +53,7 @@ fn say_record(r: Record) {
     say::small(r.attempt);
     say::small(r.left);
     say::flag(r.owed);
+    say::small(r.wait);
 }
 
 fn after(kept: Kept, went: Went) -> Kept {
@@ -67,6 +71,7 @@ fn record(kept: Kept, q: Question) -> Kept {
             attempt: q.octet(2),
             left: q.octet(3),
             owed: q.octet(4) != 0,
+            wait: q.octet(5),
         },
         went: Went::On,
     }
@@ -78,7 +83,7 @@ fn event(kept: Kept, q: Question) -> Kept {
         return after(kept, Went::Broken);
     }
     let r = kept.record;
-    let stepped = verify::step(r, event_words::event_of(number));
+    let stepped = verify::step(r, event_words::event_of(number, q.word(2)));
     let answer = stepped.answer;
     let record = stepped.after;
     say_answer(answer);
@@ -90,7 +95,7 @@ fn event(kept: Kept, q: Question) -> Kept {
 }
 
 // The octets that the numbers of each kind of question take.
-const SIZES: [usize; 3] = [0, 5, 2];
+const SIZES: [usize; 3] = [0, 6, 6];
 
 fn question(kept: Kept, q: Question) -> Kept {
     match q.octet(0) {

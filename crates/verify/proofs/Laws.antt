@@ -5,7 +5,7 @@ use mathlib.Core.Bool.{true, false}
 use Prim.Native.Nat.{_+_, _-_, _≤_, _<_}
 use native.Mathlib.Omega.{arith}
 use borrow.Author.Tests.{lt-ltb, le-ltb, eq-eqb, ne-eqb}
-use Rattle.verify_record.specs.Ranges.{wait, attempts, inRange}
+use Rattle.verify_record.specs.Ranges.{attempts, inRange}
 use Rattle.verify_record.specs.declared.Phase.the-variants.{Failed}
 use Rattle.verify_record.specs.declared.Record.{Record}
 use Rattle.verify.specs.Verify.{takes, rests, tries, atZero, oneLess, effect, refuses, stepOf}
@@ -16,7 +16,7 @@ pub step-taken : (r : Record) (e : Event) → inRange r ≡ true → stepOf r e 
 unfolding stepOf
 step-taken r e h = simp h
 
-pub step-refused : (r : Record) (e : Event) → inRange r ≡ false → stepOf r e ≡ refuses r
+pub step-refused : (r : Record) (e : Event) → inRange r ≡ false → stepOf r e ≡ refuses 40 r
 unfolding stepOf
 step-refused r e h = simp h
 
@@ -25,7 +25,7 @@ pub waits : (r : Record) → 1 < r .left → oneLess r ≡ takes (tries (r .atte
 unfolding oneLess
 waits r h = simp (ne-eqb (r .left - 1) 0 (omega arith))
 
-pub tries-again : (r : Record) → r .left ≤ 1 → r .attempt < attempts → oneLess r ≡ takes (tries (r .attempt + 1) wait r) true
+pub tries-again : (r : Record) → r .left ≤ 1 → r .attempt < attempts → oneLess r ≡ takes (tries (r .attempt + 1) (r .wait) r) true
 unfolding oneLess atZero
 tries-again r h k = simp (eq-eqb (r .left - 1) 0 (omega arith), lt-ltb _ _ k)
 

@@ -1,13 +1,13 @@
-// Link verification (document 01, "Verification"): does the neighbour answer a V with an R?
+// Link verification (document 01, "Verification", and document 02, (v)): does the neighbour answer a V with an R?
 use verify_record::ATTEMPTS;
 use verify_record::Phase;
 use verify_record::Record;
-use verify_record::WAIT;
 ghost use mathlib.Core.Path.{_≡_};
-ghost use Rattle.verify.specs.Verify.{takes, oneLess, effect, told, stepOf};
+ghost use Rattle.verify.specs.Verify.{number, takes, refuses, oneLess, effect, told, stepOf};
 
 pub enum Event {
-    Enable,
+    // With the milliseconds that each attempt is to wait for an R.
+    Enable(u32),
     Disable,
     LinkFailed,
     ResponseHeard,
@@ -16,11 +16,27 @@ pub enum Event {
     Millisecond,
 }
 
+// Why an event is refused: the record is outside its ranges (40), or the wait of an enable is none (41).
+pub enum Refusal {
+    Record,
+    Wait,
+}
+
+impl Refusal {
+    pub fn number(self) -> u32
+        ensures { λ n. ⌜ n ≡ number self ⌝ }
+    {
+        match self {
+            Refusal::Record => 40,
+            Refusal::Wait => 41,
+        }
+    }
+}
+
 pub enum Answer {
     // Done, and whether a V is ordered.
     Taken(bool),
-    // The record was outside its ranges.
-    Refused,
+    Refused(Refusal),
 }
 
 // The answer to an event, and the record after it.
@@ -39,20 +55,35 @@ fn taken(after: Record, ordered: bool) -> Stepped
     }
 }
 
-// Off becomes trying, at its first attempt.
-fn enable(record: Record) -> Stepped
-    ensures { λ s. ⌜ told s ≡ effect Event.Enable «record» ⌝ }
+// An event that is refused.
+fn refused(why: Refusal, record: Record) -> Stepped
+    ensures { λ s. ⌜ told s ≡ refuses (number why) «record» ⌝ }
 {
-    let begun = Record {
-        phase: Phase::Trying,
-        attempt: 1,
-        left: WAIT,
-        ..record
-    };
-    if record.is_off() {
-        return taken(begun, true);
+    Stepped {
+        answer: Answer::Refused(why),
+        after: record,
     }
-    taken(record, false)
+}
+
+// Off becomes trying, at its first attempt; the record keeps the wait.
+fn enable(record: Record, wait: u32) -> Stepped
+    ensures { λ s. ⌜ told s ≡ effect (Event.Enable wait) «record» ⌝ }
+{
+    if verify_record::is_wait(wait) {
+        let wait = wait as u8;
+        let begun = Record {
+            phase: Phase::Trying,
+            attempt: 1,
+            left: wait,
+            wait,
+            ..record
+        };
+        if record.is_off() {
+            return taken(begun, true);
+        }
+        return taken(record, false);
+    }
+    refused(Refusal::Wait, record)
 }
 
 // Trying becomes verified.
@@ -77,6 +108,7 @@ fn count_down(record: Record) -> Stepped
 {
     let attempt = record.attempt;
     let left = record.left;
+    let wait = record.wait;
     if 1 < left {
         let waiting = Record {
             phase: Phase::Trying,
@@ -89,7 +121,7 @@ fn count_down(record: Record) -> Stepped
         let next = Record {
             phase: Phase::Trying,
             attempt: attempt + 1,
-            left: WAIT,
+            left: wait,
             ..record
         };
         return taken(next, true);
@@ -133,7 +165,7 @@ fn take(record: Record, event: Event) -> Stepped
         ..record
     };
     match event {
-        Event::Enable => enable(record),
+        Event::Enable(wait) => enable(record, wait),
         Event::Disable => taken(off, false),
         Event::LinkFailed => taken(lost, false),
         Event::ResponseHeard => hear(record),
@@ -143,15 +175,13 @@ fn take(record: Record, event: Event) -> Stepped
     }
 }
 
-// What an event does to a record, and whether a V is ordered; a record outside its ranges is refused and handed back.
+// What an event does to a record, and whether a V is ordered; a record outside its ranges, or then an enable with a wait outside its own, is
+// refused and the record handed back.
 pub fn step(record: Record, event: Event) -> Stepped
     ensures { λ s. ⌜ told s ≡ stepOf «record» event ⌝ }
 {
     if record.in_range() {
         return take(record, event);
     }
-    Stepped {
-        answer: Answer::Refused,
-        after: record,
-    }
+    refused(Refusal::Record, record)
 }

@@ -1,25 +1,25 @@
 -- What holds of every history of events.
 -- Assumes nothing.
-use mathlib.Core.Path.{_≡_, refl, ap}
+use mathlib.Core.Path.{_≡_, refl, ap, _∙_}
 use mathlib.Core.Bool.{Bool, true, false, cond, false≢true}
 use mathlib.Core.List.{List, [], _∷_, _++_}
 use mathlib.Core.Logic.{_↔_, _⊎_, inl, inr, ⊎-elim}
-use Prim.Native.Nat.{ℕ, _+_, _-_, _*_, _≤_, _<_}
+use Prim.Native.Nat.{ℕ, zero, suc, _+_, _-_, _*_, _≤_, _<_}
 use native.Mathlib.Decide.{decLt}
 use native.Mathlib.Omega.{arith}
 use lib.Dec.{ltb}
 use borrow.Author.Tests.{lt-ltb, le-ltb}
-use Rattle.rules.proofs.Tests.{by-test, never}
-use Rattle.verify_record.specs.Ranges.{wait, attempts, fresh, isOff, isTrying, counted, inRange}
+use Rattle.rules.proofs.Tests.{chosen, by-test, never}
+use Rattle.verify_record.specs.Ranges.{attempts, isWait, fresh, isOff, isTrying, counted, inRange}
 use Rattle.verify_record.specs.declared.Phase.{Phase}
 use Rattle.verify_record.specs.declared.Phase.the-variants.{Off, Trying, Verified, Failed}
 use Rattle.verify_record.specs.declared.Record.{Record}
-use Rattle.verify.specs.Verify.{Told, rests, tries, owing, effect, stepOf}
+use Rattle.verify.specs.Verify.{Told, rests, tries, begun, owing, effect, stepOf}
 use Rattle.verify.specs.declared.Event.{Event}
 use Rattle.verify.specs.declared.Event.the-variants.{Enable, Disable, LinkFailed, ResponseHeard, VerifyHeard, ResponseSent, Millisecond}
 use Rattle.verify.proofs.Laws.{step-taken, step-refused}
-use Rattle.verify_histories.specs.Histories.{recordAfter, is, one, times, verifies, begins, beginnings, HeardInTrying}
-use Rattle.verify_histories.proofs.Ranges.{by-tick, running, in-range-kept, step-in-range}
+use Rattle.verify_histories.specs.Histories.{recordAfter, is, one, times, verifies, carried, begins, beginnings, lastWait, HeardInTrying}
+use Rattle.verify_histories.proofs.Ranges.{by-tick, running, rest-in-range, begun-in-range, in-range-kept, step-in-range}
 
 -- the record after no event, after a first one, and after two histories
 after-none : (r : Record) → recordAfter r [] ≡ r
@@ -42,59 +42,116 @@ after-in-range r [] h = h
 after-in-range r (e ∷ es) h = after-in-range (stepOf r e .after) es (step-in-range r e h)
 
 pub always-in-range : (es : List Event) → inRange (recordAfter fresh es) ≡ true
-unfolding counted
+unfolding isWait counted
 always-in-range es = after-in-range fresh es refl
+
+-- the record keeps the wait of the last enable that began trying
+abbrev Keeps : Record → Event → Told → Type 0
+Keeps r e t = t .after .wait ≡ cond (begins r e) (carried e) (r .wait)
+
+keeps : (r : Record) (e : Event) → Keeps r e (effect e r)
+unfolding isWait
+keeps r (Enable n) =
+    by-test (Keeps r (Enable n)) (isWait n)
+    (λ w. by-test (Keeps r (Enable n)) (isOff (r .phase)) (λ o. simp (w, o)) (λ o. simp (w, o)))
+    (λ w. simp w)
+keeps r Disable = refl
+keeps r LinkFailed = refl
+keeps r ResponseHeard = by-test (Keeps r ResponseHeard) (isTrying (r .phase)) (λ t. refl) (λ t. refl)
+keeps r VerifyHeard = refl
+keeps r ResponseSent = refl
+keeps r Millisecond =
+    by-test (Keeps r Millisecond) (isTrying (r .phase)) (λ t. by-tick (Keeps r Millisecond) r (λ a. refl) (λ a b. refl) (λ a b. refl)) (λ t. refl)
+
+pub wait-kept : (r : Record) (es : List Event) → inRange r ≡ true → recordAfter r es .wait ≡ lastWait (r .wait) r es
+unfolding recordAfter lastWait
+wait-kept r [] h = refl
+wait-kept r (e ∷ es) h =
+    wait-kept (stepOf r e .after) es (step-in-range r e h) ∙ ap (λ (n : ℕ). lastWait n (stepOf r e .after) es) (rw (step-taken r e h) (keeps r e))
 
 -- what is left of a trying: the V that it can still order, and its milliseconds
 abbrev spare : Record → ℕ
 spare r = cond (isTrying (r .phase)) (attempts - r .attempt) 0
 
+abbrev left : Record → ℕ
+left r = (attempts - r .attempt) * r .wait + r .left
+
 abbrev remaining : Record → ℕ
-remaining r = cond (isTrying (r .phase)) ((attempts - r .attempt) * wait + r .left) 0
+remaining r = cond (isTrying (r .phase)) (left r) 0
+
+-- an attempt more has its whole wait
+attempt-more : (k n : ℕ) → k < attempts → (attempts - k) * n ≡ (attempts - (k + 1)) * n + n
+attempt-more zero n h = omega arith
+attempt-more (suc zero) n h = omega arith
+attempt-more (suc (suc zero)) n h = omega arith
+attempt-more (suc (suc (suc k))) n h = absurd (let z : ⊥ = omega arith in z)
+
+-- behind the last attempt there is none
+attempt-last : (k n : ℕ) → attempts ≤ k → (attempts - k) * n ≡ 0
+attempt-last k n h = let none : attempts - k ≡ 0 = omega arith in omega (arith, ap (λ (x : ℕ). x * n) none)
+
+-- behind the first attempt there are two more at most
+attempts-behind : (k n : ℕ) → 1 ≤ k → k ≤ attempts → (attempts - k) * n + n ≤ attempts * n
+attempts-behind zero n h m = absurd (let z : ⊥ = omega arith in z)
+attempts-behind (suc zero) n h m = omega arith
+attempts-behind (suc (suc zero)) n h m = omega arith
+attempts-behind (suc (suc (suc zero))) n h m = omega arith
+attempts-behind (suc (suc (suc (suc k)))) n h m = absurd (let z : ⊥ = omega arith in z)
 
 -- what an event takes of that, unless it begins trying
 abbrev Spends : Record → Event → Told → Type 0
 Spends r e t =
     (one (t .said .ordered) + spare (t .after) ≤ attempts * one (begins r e) + spare r)
-    × (remaining (t .after) ≤ attempts * wait * one (begins r e) + (remaining r - one (is Millisecond e)))
+    × (one (begins r e) ≡ 0 → remaining (t .after) ≤ remaining r - one (is Millisecond e))
 
 spends : (r : Record) (e : Event) → inRange r ≡ true → Spends r e (effect e r)
-spends r Enable h = by-test (Spends r Enable) (isOff (r .phase)) (λ o. rw o (omega arith)) (λ o. rw o (omega arith))
-spends r Disable h = omega arith
-spends r LinkFailed h = omega arith
-spends r ResponseHeard h = by-test (Spends r ResponseHeard) (isTrying (r .phase)) (λ t. omega arith) (λ t. omega arith)
-spends r VerifyHeard h = omega arith
-spends r ResponseSent h = omega arith
+spends r (Enable n) h =
+    by-test (Spends r (Enable n)) (isWait n)
+    (λ w. by-test (Spends r (Enable n)) (isOff (r .phase)) (λ o. rw (w, o) (omega arith, λ z. omega arith)) (λ o. rw (w, o) (omega arith, λ z. omega arith)))
+    (λ w. rw w (omega arith, λ z. omega arith))
+spends r Disable h = (omega arith, λ z. omega arith)
+spends r LinkFailed h = (omega arith, λ z. omega arith)
+spends r ResponseHeard h = by-test (Spends r ResponseHeard) (isTrying (r .phase)) (λ t. (omega arith, λ z. omega arith)) (λ t. (omega arith, λ z. omega arith))
+spends r VerifyHeard h = (omega arith, λ z. omega arith)
+spends r ResponseSent h = (omega arith, λ z. omega arith)
 spends r Millisecond h =
     by-test (Spends r Millisecond) (isTrying (r .phase))
     (λ t. let c = running r h t in
-    by-tick (Spends r Millisecond) r (λ a. rw t (omega arith)) (λ a b. rw t (omega arith)) (λ a b. omega arith))
-    (λ t. rw t (omega arith))
+    by-tick (Spends r Millisecond) r (λ a. rw t (omega arith, λ z. omega arith)) (λ a b. rw t (omega arith, λ z. omega (arith, attempt-more (r .attempt) (r .wait) b))) (λ a b. (omega arith, λ z. omega arith)))
+    (λ t. rw t (omega arith, λ z. omega arith))
 
 step-spends : (r : Record) (e : Event) → inRange r ≡ true → Spends r e (stepOf r e)
 step-spends r e h = rw (step-taken r e h) (spends r e h)
 
 -- three V at most for each time that trying is begun
+once : (b : Bool) → one b ≤ 1
+once true = omega arith
+once false = omega arith
+
 verifies-bound : (r : Record) (es : List Event) → inRange r ≡ true → verifies r es ≤ attempts * beginnings r es + spare r
 unfolding verifies beginnings
 verifies-bound r [] h = omega arith
-verifies-bound r (e ∷ es) h = omega (arith, step-spends r e h, verifies-bound (stepOf r e .after) es (step-in-range r e h))
+verifies-bound r (e ∷ es) h = omega (arith, step-spends r e h .0, verifies-bound (stepOf r e .after) es (step-in-range r e h))
 
 pub three-for-each : (es : List Event) → verifies fresh es ≤ attempts * beginnings fresh es
-unfolding counted
+unfolding isWait counted
 three-for-each es = omega (arith, verifies-bound fresh es refl)
 
-pub three-verifies : (r : Record) (es : List Event) → inRange r ≡ true → r .phase ≡ Off → beginnings (stepOf r Enable .after) es ≡ 0
-    → verifies r (Enable ∷ es) ≤ attempts
+pub three-verifies : (r : Record) (n : ℕ) (es : List Event) → inRange r ≡ true → r .phase ≡ Off → beginnings (stepOf r (Enable n) .after) es ≡ 0
+    → verifies r (Enable n ∷ es) ≤ attempts
 unfolding beginnings
-three-verifies r es h p n = omega (arith, simp p at (verifies-bound r (Enable ∷ es) h))
+three-verifies r n es h p b =
+    let none : spare r ≡ 0 = simp p in
+    omega (arith, verifies-bound r (Enable n ∷ es) h, once (begins r (Enable n)))
 
--- "Trying lasts at most 30 millisecond events"
-milliseconds-bound : (r : Record) (es : List Event) → inRange r ≡ true
-    → remaining (recordAfter r es) ≤ attempts * wait * beginnings r es + (remaining r - times Millisecond es)
+-- "trying lasts at most three times it", the wait kept
+milliseconds-bound : (r : Record) (es : List Event) → inRange r ≡ true → beginnings r es ≡ 0
+    → remaining (recordAfter r es) ≤ remaining r - times Millisecond es
 unfolding recordAfter beginnings times
-milliseconds-bound r [] h = omega arith
-milliseconds-bound r (e ∷ es) h = omega (arith, step-spends r e h, milliseconds-bound (stepOf r e .after) es (step-in-range r e h))
+milliseconds-bound r [] h n = omega arith
+milliseconds-bound r (e ∷ es) h n =
+    let b : one (begins r e) ≡ 0 = omega (arith, n) in
+    omega (arith, step-spends r e h .1 b, milliseconds-bound (stepOf r e .after) es (step-in-range r e h) (omega (arith, n)))
 
 spent : (r : Record) → inRange r ≡ true → remaining r ≤ 0 → isTrying (r .phase) ≡ false
 spent r h z = by (isTrying (r .phase)) refl
@@ -103,20 +160,28 @@ spent r h z = by (isTrying (r .phase)) refl
     by false t = refl
     by true t = let c = running r h t in absurd (let y : ⊥ = omega (arith, rw t at z) in y)
 
-pub trying-over : (r : Record) (es : List Event) → inRange r ≡ true → r .phase ≡ Off → beginnings (stepOf r Enable .after) es ≡ 0
-    → attempts * wait ≤ times Millisecond es → isTrying (recordAfter r (Enable ∷ es) .phase) ≡ false
-unfolding recordAfter
-trying-over r es h p n m =
-    let all : remaining (stepOf r Enable .after) ≡ attempts * wait = simp (step-taken r Enable h, p) in
-    let bound = milliseconds-bound (stepOf r Enable .after) es (step-in-range r Enable h) in
-    spent (recordAfter r (Enable ∷ es)) (after-in-range r (Enable ∷ es) h) (omega arith)
+at-most : (r : Record) → inRange r ≡ true → remaining r ≤ attempts * r .wait
+at-most r h = by (isTrying (r .phase)) refl
+  where
+    by : (b : Bool) → isTrying (r .phase) ≡ b → remaining r ≤ attempts * r .wait
+    by false t = rw t (omega arith)
+    by true t = let c = running r h t in rw t (omega (arith, attempts-behind (r .attempt) (r .wait) (c .first) (c .last)))
+
+pub trying-over : (r : Record) (es : List Event) → inRange r ≡ true → beginnings r es ≡ 0
+    → attempts * r .wait ≤ times Millisecond es → isTrying (recordAfter r es .phase) ≡ false
+trying-over r es h n m =
+    spent (recordAfter r es) (after-in-range r es h) (omega (arith, milliseconds-bound r es h n, at-most r h))
+
+-- an enable outside off changes nothing
+enabled-before : (r : Record) (n : ℕ) → isOff (r .phase) ≡ false → effect (Enable n) r .after ≡ r
+enabled-before r n o = rw o (chosen (λ (t : Told). t .after ≡ r) (isWait n) _ _ refl refl)
 
 -- neither off nor trying, the phase stays until disable or link failed
 stays : (r : Record) (es : List Event) → inRange r ≡ true → isOff (r .phase) ≡ false → isTrying (r .phase) ≡ false
     → times Disable es + times LinkFailed es ≡ 0 → recordAfter r es .phase ≡ r .phase
 unfolding times
 stays r [] h o t k = simp after-none
-stays r (Enable ∷ es) h o t k = rw (after-first r Enable es h, o) (stays r es h o t (omega arith))
+stays r (Enable n ∷ es) h o t k = rw (after-first r (Enable n) es h, enabled-before r n o) (stays r es h o t (omega arith))
 stays r (Disable ∷ es) h o t k = absurd (let z : ⊥ = omega arith in z)
 stays r (LinkFailed ∷ es) h o t k = absurd (let z : ⊥ = omega arith in z)
 stays r (ResponseHeard ∷ es) h o t k = rw (after-first r ResponseHeard es h, t) (stays r es h o t (omega arith))
@@ -135,12 +200,13 @@ retold w f g = (λ h. w .0 (f h), λ h. w .1 (g h))
 
 lasts : (r : Record) (es : List Event) → inRange r ≡ true → r .phase ≡ Trying
     → times Disable es + times LinkFailed es + times ResponseHeard es ≡ 0
-    → Lasts (times Millisecond es) ((attempts - r .attempt) * wait + r .left) (recordAfter r es .phase)
+    → Lasts (times Millisecond es) (left r) (recordAfter r es .phase)
 unfolding times
 lasts r [] h p k =
     let c = running r h (ap isTrying p) in
     rw after-none (λ a. p, λ a. absurd (let z : ⊥ = omega arith in z))
-lasts r (Enable ∷ es) h p k = rw (after-first r Enable es h, ap isOff p) (retold (lasts r es h p (omega arith)) (omega arith) (omega arith))
+lasts r (Enable n ∷ es) h p k =
+    rw (after-first r (Enable n) es h, enabled-before r n (ap isOff p)) (retold (lasts r es h p (omega arith)) (omega arith) (omega arith))
 lasts r (Disable ∷ es) h p k = absurd (let z : ⊥ = omega arith in z)
 lasts r (LinkFailed ∷ es) h p k = absurd (let z : ⊥ = omega arith in z)
 lasts r (ResponseHeard ∷ es) h p k = absurd (let z : ⊥ = omega arith in z)
@@ -152,22 +218,23 @@ lasts r (Millisecond ∷ es) h p k =
     let c = running r h (ap isTrying p) in
     rw (after-first r Millisecond es h, ap isTrying p)
     (by-tick
-    (λ (t : Told). inRange (t .after) ≡ true → Lasts (1 + times Millisecond es) ((attempts - r .attempt) * wait + r .left) (recordAfter (t .after) es .phase)) r
+    (λ (t : Told). inRange (t .after) ≡ true → Lasts (1 + times Millisecond es) (left r) (recordAfter (t .after) es .phase)) r
     (λ a i. retold (lasts (tries (r .attempt) (r .left - 1) r) es i refl (omega arith)) (omega arith) (omega arith))
-    (λ a b i. retold (lasts (tries (r .attempt + 1) wait r) es i refl (omega arith)) (omega arith) (omega arith))
-    (λ a b i. (λ x. absurd (let z : ⊥ = omega arith in z), λ x. stays (rests Failed r) es i refl refl (omega arith)))
+    (λ a b i. let m = attempt-more (r .attempt) (r .wait) b in
+    retold (lasts (tries (r .attempt + 1) (r .wait) r) es i refl (omega arith)) (omega arith) (omega arith))
+    (λ a b i. let last = attempt-last (r .attempt) (r .wait) b in
+    (λ x. absurd (let z : ⊥ = omega arith in z), λ x. stays (rests Failed r) es i refl refl (omega arith)))
     (rw (ap isTrying p) at (in-range-kept r Millisecond h)))
 
-pub trying-lasts : (r : Record) (es : List Event) → inRange r ≡ true → r .phase ≡ Off
+pub trying-lasts : (r : Record) (n : ℕ) (es : List Event) → inRange r ≡ true → r .phase ≡ Off → isWait n ≡ true
     → times Disable es + times LinkFailed es + times ResponseHeard es ≡ 0
-    → recordAfter r (Enable ∷ es) .phase ≡ cond (ltb (times Millisecond es) (attempts * wait)) Trying Failed
-unfolding counted
-trying-lasts r es h p k =
-    let w = lasts (tries 1 wait r) es refl refl k in
-    rw (after-first r Enable es h, ap isOff p)
-    (elim (decLt (times Millisecond es) (attempts * wait)) [
-      | yes a ↦ rw (lt-ltb _ _ a) (w .0 a)
-      | no a ↦ rw (le-ltb (times Millisecond es) (attempts * wait) (omega arith)) (w .1 (omega arith))
+    → recordAfter r (Enable n ∷ es) .phase ≡ cond (ltb (times Millisecond es) (attempts * n)) Trying Failed
+trying-lasts r n es h p w k =
+    let l = lasts (begun n r) es (begun-in-range n r w) refl k in
+    rw (after-first r (Enable n) es h, w, ap isOff p)
+    (elim (decLt (times Millisecond es) (attempts * n)) [
+      | yes a ↦ rw (lt-ltb _ _ a) (l .0 (omega arith))
+      | no a ↦ rw (le-ltb (times Millisecond es) (attempts * n) (omega arith)) (l .1 (omega arith))
     ])
 
 -- verified after an event: it was so before, and the event kept it; or an R was heard in trying
@@ -184,7 +251,10 @@ is-trying Verified t = absurd (false≢true t)
 is-trying Failed t = absurd (false≢true t)
 
 came : (r : Record) (e : Event) → Comes r e (effect e r)
-came r Enable = by-test (Comes r Enable) (isOff (r .phase)) (λ o v. never (cc)) (λ o v. inl (v, refl))
+came r (Enable n) =
+    by-test (Comes r (Enable n)) (isWait n)
+    (λ w. by-test (Comes r (Enable n)) (isOff (r .phase)) (λ o v. never (cc)) (λ o v. inl (v, refl)))
+    (λ w v. inl (v, refl))
 came r Disable = λ v. never (cc)
 came r LinkFailed = λ v. never (cc)
 came r ResponseHeard =
@@ -220,12 +290,11 @@ heard-if r (e ∷ es) h v =
     (heard-if (stepOf r e .after) es (step-in-range r e h) v)
 
 verified-if : (r : Record) (es : List Event) → inRange r ≡ true → HeardInTrying r es → recordAfter r es .phase ≡ Verified
-unfolding counted
 verified-if r es h w =
     let x = recordAfter r (w .before) in
     rw (w .history, after-append r (w .before) (ResponseHeard ∷ w .since), after-first x ResponseHeard (w .since) (after-in-range r (w .before) h), ap isTrying (w .trying))
-    (stays (rests Verified x) (w .since) refl refl refl (w .kept))
+    (stays (rests Verified x) (w .since) (rest-in-range Verified x refl (after-in-range r (w .before) h)) refl refl (w .kept))
 
 pub verified-exactly : (es : List Event) → (recordAfter fresh es .phase ≡ Verified) ↔ HeardInTrying fresh es
-unfolding counted
+unfolding isWait counted
 verified-exactly es = (λ v. ⊎-elim (λ k. never (cc (k .0))) (λ w. w) (heard-if fresh es refl v), verified-if fresh es refl)

@@ -5,7 +5,7 @@ use mathlib.Core.Bool.{Bool, cond, _&&_}
 use mathlib.Core.List.{List, [], _∷_, _++_}
 use Prim.Native.Nat.{ℕ, _+_}
 use lib.Dec.{eqb}
-use Rattle.verify_record.specs.Ranges.{isOff}
+use Rattle.verify_record.specs.Ranges.{isWait, isOff}
 use Rattle.verify_record.specs.declared.Phase.the-variants.{Trying}
 use Rattle.verify_record.specs.declared.Record.{Record}
 use Rattle.verify.specs.Verify.{stepOf}
@@ -19,7 +19,7 @@ recordAfter r (e ∷ es) = recordAfter (stepOf r e .after) es
 
 -- an event's row in the table, and whether two events are of the same row
 abbrev pub row : Event → ℕ
-row Enable = 1
+row (Enable n) = 1
 row Disable = 2
 row LinkFailed = 3
 row ResponseHeard = 4
@@ -44,13 +44,28 @@ unfoldable pub verifies : Record → List Event → ℕ
 verifies r [] = 0
 verifies r (e ∷ es) = one (stepOf r e .said .ordered) + verifies (stepOf r e .after) es
 
--- how often a history begins trying: the enables in off
+-- the wait that an event carries; only enable has one
+abbrev pub carried : Event → ℕ
+carried (Enable n) = n
+carried Disable = 0
+carried LinkFailed = 0
+carried ResponseHeard = 0
+carried VerifyHeard = 0
+carried ResponseSent = 0
+carried Millisecond = 0
+
+-- how often a history begins trying: the enables in off whose wait is one
 abbrev pub begins : Record → Event → Bool
-begins r e = is Enable e && isOff (r .phase)
+begins r e = isWait (carried e) && isOff (r .phase)
 
 unfoldable pub beginnings : Record → List Event → ℕ
 beginnings r [] = 0
 beginnings r (e ∷ es) = one (begins r e) + beginnings (stepOf r e .after) es
+
+-- the wait of the last enable that began trying, or, where none did, the one before
+unfoldable pub lastWait : ℕ → Record → List Event → ℕ
+lastWait n r [] = n
+lastWait n r (e ∷ es) = lastWait (cond (begins r e) (carried e) n) (stepOf r e .after) es
 
 -- a history in which an R was heard in trying, and since then neither disable nor link failed came
 pub record HeardInTrying (r : Record) (es : List Event) : Type 0 where

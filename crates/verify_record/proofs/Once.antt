@@ -2,8 +2,13 @@
 -- Assumes nothing.
 use mathlib.Core.Path.{_≡_, sym, _∙_}
 use mathlib.Core.Bool.{Bool}
-use Rattle.verify_record.specs.Ranges.{fresh, isOff, isTrying, inRange}
+use Prim.Native.Nat.{ℕ}
+use Rattle.verify_record.specs.Ranges.{isWait, fresh, isOff, isTrying, inRange}
 use Rattle.verify_record.specs.declared.Record.{Record}
+
+-- is_wait
+pub is-wait-once : (n : ℕ) {x y : Bool} → x ≡ isWait n → y ≡ isWait n → x ≡ y
+is-wait-once n p q = p ∙ sym q
 
 -- Record::fresh
 pub fresh-once : {x y : Record} → x ≡ fresh → y ≡ fresh → x ≡ y

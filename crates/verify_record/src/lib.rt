@@ -1,11 +1,23 @@
-// What link verification keeps between events (document 01, "Verification"): the record and its ranges.
+// What link verification keeps between events (document 01, "Verification", and document 02, (v)): the record and its ranges.
 ghost use mathlib.Core.Path.{_≡_};
-ghost use Rattle.verify_record.specs.Ranges.{fresh, isOff, isTrying, counted, inRange};
+ghost use Rattle.verify_record.specs.Ranges.{isWait, fresh, isOff, isTrying, counted, inRange};
 
-// The milliseconds that an attempt waits for an R, and the number of attempts.
-pub const WAIT: u8 = 10;
-
+// The number of attempts; the most milliseconds that one may wait for an R, and those of a fresh record.
 pub const ATTEMPTS: u8 = 3;
+
+const LONGEST: u32 = 128;
+
+const USUAL: u8 = 10;
+
+// Whether an attempt may wait so many milliseconds.
+pub fn is_wait(n: u32) -> bool
+    ensures { λ b. ⌜ b ≡ isWait n ⌝ }
+{
+    if n < 1 {
+        return false;
+    }
+    n <= LONGEST
+}
 
 pub enum Phase {
     Off,
@@ -14,16 +26,18 @@ pub enum Phase {
     Failed,
 }
 
-// The phase; in trying the attempt and the milliseconds that it has left, else 0 and 0; whether a response is owed.
+// The phase; in trying the attempt and the milliseconds that it has left, else 0 and 0; whether a response is owed; the milliseconds that each
+// attempt waits.
 pub struct Record {
     pub phase: Phase,
     pub attempt: u8,
     pub left: u8,
     pub owed: bool,
+    pub wait: u8,
 }
 
 impl Record {
-    // Off, and nothing owed.
+    // Off, nothing owed, and the usual wait.
     pub fn fresh() -> Record
         ensures { λ r. ⌜ r ≡ fresh ⌝ }
     {
@@ -32,6 +46,7 @@ impl Record {
             attempt: 0,
             left: 0,
             owed: false,
+            wait: USUAL,
         }
     }
 
@@ -77,13 +92,17 @@ impl Record {
         left <= wait
     }
 
-    // Whether attempt and milliseconds left are those that the phase allows.
+    // Whether the wait is one, and attempt and milliseconds left are those that it and the phase allow.
     pub fn in_range(self) -> bool
         ensures { λ b. ⌜ b ≡ inRange self ⌝ }
     {
-        if self.is_trying() {
-            return self.counts(1, ATTEMPTS, WAIT);
+        let wait = self.wait;
+        if is_wait(wait as u32) {
+            if self.is_trying() {
+                return self.counts(1, ATTEMPTS, wait);
+            }
+            return self.counts(0, 0, 0);
         }
-        self.counts(0, 0, 0)
+        false
     }
 }

@@ -15,14 +15,31 @@ use Rattle.words.proofs.Laws.{flag-read, flag-written}
 use Rattle.verify_words.specs.Link.{phaseNumber, phaseOf, linkWords, linkFits, linkOf}
 use Rattle.rules.proofs.Tests.{both}
 
--- what four words that are a record's have
-pub counts-known : (w : List ℕ) → linkFits w ≡ true → (word w 1 ≤ 255) × (word w 2 ≤ 255)
+-- what five words that are a record's have
+pub record Fits (w : List ℕ) : Type 0 where
+  pub phase : word w 0 ≤ 3
+  pub attempt : word w 1 ≤ 255
+  pub left : word w 2 ≤ 255
+  pub owed : word w 3 ≤ 1
+  pub wait : word w 4 ≤ 255
+
+fits : (w : List ℕ) → linkFits w ≡ true → Fits w
 unfolding linkFits
-counts-known w e =
+fits w e =
     let a = both (leb (word w 0) 3) _ e in
     let b = both (isCount w 1) _ (a .1) in
     let c = both (isCount w 2) _ (b .1) in
-    (leb-true _ _ (b .0), leb-true _ _ (c .0))
+    let d = both (isFlag w 3) (isCount w 4) (c .1) in
+    record {
+      phase = leb-true _ _ (a .0);
+      attempt = leb-true _ _ (b .0);
+      left = leb-true _ _ (c .0);
+      owed = leb-true _ _ (d .0);
+      wait = leb-true _ _ (d .1);
+    }
+
+pub counts-known : (w : List ℕ) → linkFits w ≡ true → (word w 1 ≤ 255) × (word w 2 ≤ 255) × (word w 4 ≤ 255)
+counts-known w e = let f = fits w e in (f .attempt, f .left, f .wait)
 
 -- phases
 phase-read : (p : Phase) → phaseOf (phaseNumber p) ≡ p
@@ -43,11 +60,7 @@ pub link-read : (r : Link) → linkOf (linkWords r) ≡ r
 link-read r = simp (phase-read (r .phase), flag-read (r .owed))
 
 -- words that are a record's are what that record is written as
-pub link-written : (p a l o : ℕ) → let w = p ∷ a ∷ l ∷ o ∷ [] in linkFits w ≡ true → linkWords (linkOf w) ≡ w
-unfolding linkFits
-link-written p a l o q =
-    let w = p ∷ a ∷ l ∷ o ∷ [] in
-    let x = both (leb p 3) _ q in
-    let y = both (isCount w 1) _ (x .1) in
-    let z = both (isCount w 2) (isFlag w 3) (y .1) in
-    simp (phase-written p (leb-true _ _ (x .0)), flag-written o (leb-true _ _ (z .1)))
+pub link-written : (p a l o n : ℕ) → let w = p ∷ a ∷ l ∷ o ∷ n ∷ [] in linkFits w ≡ true → linkWords (linkOf w) ≡ w
+link-written p a l o n q =
+    let f = fits (p ∷ a ∷ l ∷ o ∷ n ∷ []) q in
+    simp (phase-written p (f .phase), flag-written o (f .owed))

@@ -19,13 +19,13 @@ phaseNumber Failed = 3
 abbrev pub phaseOf : ℕ → Phase
 phaseOf n = cond (eqb n 0) Off (cond (eqb n 1) Trying (cond (eqb n 2) Verified Failed))
 
--- the verification record in four words
+-- the verification record in five words
 abbrev pub linkWords : Record → List ℕ
-linkWords r = phaseNumber (r .phase) ∷ r .attempt ∷ r .left ∷ flag (r .owed) ∷ []
+linkWords r = phaseNumber (r .phase) ∷ r .attempt ∷ r .left ∷ flag (r .owed) ∷ r .wait ∷ []
 
--- whether four words are a record's, and the record that they then are
+-- whether five words are a record's, and the record that they then are
 unfoldable pub linkFits : List ℕ → Bool
-linkFits w = leb (word w 0) 3 && (isCount w 1 && (isCount w 2 && isFlag w 3))
+linkFits w = leb (word w 0) 3 && (isCount w 1 && (isCount w 2 && (isFlag w 3 && isCount w 4)))
 
 abbrev pub linkOf : List ℕ → Record
-linkOf w = record { phase = phaseOf (word w 0); attempt = word w 1; left = word w 2; owed = flagAt w 3 }
+linkOf w = record { phase = phaseOf (word w 0); attempt = word w 1; left = word w 2; owed = flagAt w 3; wait = word w 4 }

@@ -29,8 +29,8 @@ fn phase_of(n: u32) -> Phase
     }
 }
 
-// Whether four words are a verification record's.
-pub fn link_fits(words: [u32; 4]) -> bool
+// Whether five words are a verification record's.
+pub fn link_fits(words: [u32; 5]) -> bool
     ensures { λ r. ⌜ r ≡ linkFits words ⌝ }
 {
     if 3 < words[0] {
@@ -42,12 +42,15 @@ pub fn link_fits(words: [u32; 4]) -> bool
     if 255 < words[2] {
         return false;
     }
-    words[3] <= 1
+    if 1 < words[3] {
+        return false;
+    }
+    words[4] <= 255
 }
 
 // The record that they then are.
-pub fn link_of(words: [u32; 4]) -> Record
-    requires { ⌜ (word words 1 ≤ 255) × (word words 2 ≤ 255) ⌝ }
+pub fn link_of(words: [u32; 5]) -> Record
+    requires { ⌜ (word words 1 ≤ 255) × (word words 2 ≤ 255) × (word words 4 ≤ 255) ⌝ }
     ensures { λ r. ⌜ r ≡ linkOf words ⌝ }
 {
     let phase = phase_of(words[0]);
@@ -56,11 +59,12 @@ pub fn link_of(words: [u32; 4]) -> Record
         attempt: words[1] as u8,
         left: words[2] as u8,
         owed: words[3] == 1,
+        wait: words[4] as u8,
     }
 }
 
-// The four words of a record.
-pub fn link_words(record: Record) -> [u32; 4]
+// The five words of a record.
+pub fn link_words(record: Record) -> [u32; 5]
     ensures { λ r. ⌜ r ≡ linkWords «record» ⌝ }
 {
     let phase = record.phase;
@@ -69,5 +73,6 @@ pub fn link_words(record: Record) -> [u32; 4]
         record.attempt as u32,
         record.left as u32,
         words::flag(record.owed),
+        record.wait as u32,
     ]
 }

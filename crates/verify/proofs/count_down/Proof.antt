@@ -7,8 +7,8 @@ use Rattle.verify.proofs.Laws.{waits, tries-again, gives-up}
 use Rattle.verify.proofs.count_down.Statement.{statement}
 use Rattle.verify.proofs.count_down.Tie as tie
 
-sub-t9 : tie.Need-sub-t9
-sub-t9 c = search needs
+sub-t10 : tie.Need-sub-t10
+sub-t10 c = search needs
 
 taken-requires : tie.Need-taken-requires
 taken-requires c κs = search needs
@@ -16,8 +16,8 @@ taken-requires c κs = search needs
 returns : tie.Need-returns
 returns c = c .taken .ensures ∙ sym (waits _ (omega arith))
 
-add-t13 : tie.Need-add-t13
-add-t13 c = search needs
+add-t15 : tie.Need-add-t15
+add-t15 c = search needs
 
 taken-requires-2 : tie.Need-taken-requires-2
 taken-requires-2 c κs = search needs
@@ -35,10 +35,10 @@ pub count-down-spec : {M : Type 1} → statement M
 count-down-spec =
     tie.close
     (tie.spec
-    sub-t9
+    sub-t10
     taken-requires
     returns
-    add-t13
+    add-t15
     taken-requires-2
     returns-2
     taken-requires-3

@@ -15,8 +15,11 @@ take-requires c κs = search needs
 returns : tie.Need-returns
 returns c = c .take .ensures ∙ sym (step-taken _ _ (sym (c .before .before .in-range .ensures) ∙ c .before .if1 .taken))
 
+refused-requires : tie.Need-refused-requires
+refused-requires c κs = search needs
+
 returns-2 : tie.Need-returns-2
-returns-2 c = sym (step-refused _ _ (sym (c .before .in-range .ensures) ∙ c .if1 .left))
+returns-2 c = c .refused .ensures ∙ sym (step-refused _ _ (sym (c .before .before .in-range .ensures) ∙ c .before .if1 .left))
 
 pub step-spec : {M : Type 1} → statement M
-step-spec = tie.close (tie.spec in-range-requires take-requires returns returns-2)
+step-spec = tie.close (tie.spec in-range-requires take-requires returns refused-requires returns-2)

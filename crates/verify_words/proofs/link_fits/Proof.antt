@@ -36,15 +36,28 @@ returns-3 c =
     let t2 = c .before .before .if1 .left in
     simp tests
 
-array-read-result : tie.Need-array-read-result
-array-read-result c = search needs
+array-read-if4 : tie.Need-array-read-if4
+array-read-if4 c = search needs
 
 returns-4 : tie.Need-returns-4
 unfolding linkFits
 returns-4 c =
-    let t0 = c .if3 .left in
-    let t1 = c .before .if2 .left in
-    let t2 = c .before .before .if1 .left in
+    let t0 = c .if4 .taken in
+    let t1 = c .before .if3 .left in
+    let t2 = c .before .before .if2 .left in
+    let t3 = c .before .before .before .if1 .left in
+    simp tests
+
+array-read-result : tie.Need-array-read-result
+array-read-result c = search needs
+
+returns-5 : tie.Need-returns-5
+unfolding linkFits
+returns-5 c =
+    let t0 = c .if4 .left in
+    let t1 = c .before .if3 .left in
+    let t2 = c .before .before .if2 .left in
+    let t3 = c .before .before .before .if1 .left in
     simp tests
 
 pub link-fits-spec : {M : Type 1} → statement M
@@ -57,5 +70,7 @@ link-fits-spec =
     returns-2
     array-read-if3
     returns-3
+    array-read-if4
+    returns-4
     array-read-result
-    returns-4)
+    returns-5)

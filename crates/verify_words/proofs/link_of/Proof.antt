@@ -25,6 +25,12 @@ cast-t13 c = search needs
 array-read-t16 : tie.Need-array-read-t16
 array-read-t16 c = search needs
 
+array-read-t20 : tie.Need-array-read-t20
+array-read-t20 c = search needs
+
+cast-t21 : tie.Need-cast-t21
+cast-t21 c = search needs
+
 returns : tie.Need-returns
 returns c = simp (c .phase-of .ensures)
 
@@ -39,4 +45,6 @@ link-of-spec =
     array-read-t12
     cast-t13
     array-read-t16
+    array-read-t20
+    cast-t21
     returns)
