@@ -78,7 +78,7 @@ impl State {
 }
 
 // An octet: kept behind those before it where there is room, else only remembered.
-pub fn keep(octet: u8, state: State, area: &mut [u8]) -> State
+fn keep(octet: u8, state: State, area: &mut [u8]) -> State
     requires { ⌜ most ≤ length (now area) ⌝ }
     ensures { λ s. ⌜ (s ≡ counted state) × (now (area .exit) ≡ stored octet state (now (area .entry))) ⌝ }
 {
