@@ -204,11 +204,11 @@ void seatport_express_body(const uint8_t *mframe, uint64_t length, struct seatpo
  * SEATPORT_STREAM_EMPTY.
  *
  * Calls on one stream must not interrupt one another; nor must ends, or seatport_receive, on one receiving record or one
- * assembly buffer. At 10 Mb/s the gap between two mFrames is 12 octets, 9.6 us, in which no mFrame's end is done on the
- * board. So firmware has two streams or more, each with an area, and uses them in turn: the interrupt handler fills one
- * while the main loop ends another. Receiving record and assembly buffer are one for all; only the ends use them, in the
- * order in which the mFrames came. An mFrame for which no stream is free is lost, as on the wire. examples/interrupt.c
- * shows it, with what the compiler has to be told. */
+ * assembly buffer. At 10 Mb/s the gap between two mFrames is 12 octets, 9.6 us, in which no end is done on the board that
+ * has an mFrame's octets to sum. So firmware has two streams or more, each with an area, and uses them in turn: the
+ * interrupt handler fills one while the main loop ends another. Receiving record and assembly buffer are one for all; only
+ * the ends use them, in the order in which the mFrames came. An mFrame for which no stream is free is lost, as on the wire.
+ * examples/interrupt.c shows it, with what the compiler has to be told. */
 
 /* What came since the last end. A stream that is all zero is empty; so is one after its end. */
 struct seatport_stream {
