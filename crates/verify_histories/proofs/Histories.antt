@@ -67,17 +67,18 @@ pub wait-kept : (r : Record) (es : List Event) → inRange r ≡ true → record
 unfolding recordAfter lastWait
 wait-kept r [] h = refl
 wait-kept r (e ∷ es) h =
-    wait-kept (stepOf r e .after) es (step-in-range r e h) ∙ ap (λ (n : ℕ). lastWait n (stepOf r e .after) es) (rw (step-taken r e h) (keeps r e))
+    wait-kept (stepOf r e .after) es (step-in-range r e h)
+    ∙ ap (λ (n : ℕ). lastWait n (stepOf r e .after) es) (rw (step-taken r e h) (keeps r e))
 
 -- what is left of a trying: the V that it can still order, and its milliseconds
 abbrev spare : Record → ℕ
 spare r = cond (isTrying (r .phase)) (attempts - r .attempt) 0
 
-abbrev left : Record → ℕ
-left r = (attempts - r .attempt) * r .wait + r .left
+abbrev toFailure : Record → ℕ
+toFailure r = (attempts - r .attempt) * r .wait + r .left
 
 abbrev remaining : Record → ℕ
-remaining r = cond (isTrying (r .phase)) (left r) 0
+remaining r = cond (isTrying (r .phase)) (toFailure r) 0
 
 -- an attempt more has its whole wait
 attempt-more : (k n : ℕ) → k < attempts → (attempts - k) * n ≡ (attempts - (k + 1)) * n + n
@@ -107,17 +108,23 @@ Spends r e t =
 spends : (r : Record) (e : Event) → inRange r ≡ true → Spends r e (effect e r)
 spends r (Enable n) h =
     by-test (Spends r (Enable n)) (isWait n)
-    (λ w. by-test (Spends r (Enable n)) (isOff (r .phase)) (λ o. rw (w, o) (omega arith, λ z. omega arith)) (λ o. rw (w, o) (omega arith, λ z. omega arith)))
+    (λ w. by-test (Spends r (Enable n)) (isOff (r .phase))
+    (λ o. rw (w, o) (omega arith, λ z. omega arith))
+    (λ o. rw (w, o) (omega arith, λ z. omega arith)))
     (λ w. rw w (omega arith, λ z. omega arith))
 spends r Disable h = (omega arith, λ z. omega arith)
 spends r LinkFailed h = (omega arith, λ z. omega arith)
-spends r ResponseHeard h = by-test (Spends r ResponseHeard) (isTrying (r .phase)) (λ t. (omega arith, λ z. omega arith)) (λ t. (omega arith, λ z. omega arith))
+spends r ResponseHeard h =
+    by-test (Spends r ResponseHeard) (isTrying (r .phase)) (λ t. (omega arith, λ z. omega arith)) (λ t. (omega arith, λ z. omega arith))
 spends r VerifyHeard h = (omega arith, λ z. omega arith)
 spends r ResponseSent h = (omega arith, λ z. omega arith)
 spends r Millisecond h =
     by-test (Spends r Millisecond) (isTrying (r .phase))
     (λ t. let c = running r h t in
-    by-tick (Spends r Millisecond) r (λ a. rw t (omega arith, λ z. omega arith)) (λ a b. rw t (omega arith, λ z. omega (arith, attempt-more (r .attempt) (r .wait) b))) (λ a b. (omega arith, λ z. omega arith)))
+    by-tick (Spends r Millisecond) r
+    (λ a. rw t (omega arith, λ z. omega arith))
+    (λ a b. rw t (omega arith, λ z. omega (arith, attempt-more (r .attempt) (r .wait) b)))
+    (λ a b. (omega arith, λ z. omega arith)))
     (λ t. rw t (omega arith, λ z. omega arith))
 
 step-spends : (r : Record) (e : Event) → inRange r ≡ true → Spends r e (stepOf r e)
@@ -161,11 +168,10 @@ spent r h z = by (isTrying (r .phase)) refl
     by true t = let c = running r h t in absurd (let y : ⊥ = omega (arith, rw t at z) in y)
 
 at-most : (r : Record) → inRange r ≡ true → remaining r ≤ attempts * r .wait
-at-most r h = by (isTrying (r .phase)) refl
-  where
-    by : (b : Bool) → isTrying (r .phase) ≡ b → remaining r ≤ attempts * r .wait
-    by false t = rw t (omega arith)
-    by true t = let c = running r h t in rw t (omega (arith, attempts-behind (r .attempt) (r .wait) (c .first) (c .last)))
+at-most r h =
+    by-test (λ (n : ℕ). n ≤ attempts * r .wait) (isTrying (r .phase))
+    (λ t. let c = running r h t in omega (arith, attempts-behind (r .attempt) (r .wait) (c .first) (c .last)))
+    (λ t. omega arith)
 
 pub trying-over : (r : Record) (es : List Event) → inRange r ≡ true → beginnings r es ≡ 0
     → attempts * r .wait ≤ times Millisecond es → isTrying (recordAfter r es .phase) ≡ false
@@ -200,7 +206,7 @@ retold w f g = (λ h. w .0 (f h), λ h. w .1 (g h))
 
 lasts : (r : Record) (es : List Event) → inRange r ≡ true → r .phase ≡ Trying
     → times Disable es + times LinkFailed es + times ResponseHeard es ≡ 0
-    → Lasts (times Millisecond es) (left r) (recordAfter r es .phase)
+    → Lasts (times Millisecond es) (toFailure r) (recordAfter r es .phase)
 unfolding times
 lasts r [] h p k =
     let c = running r h (ap isTrying p) in
@@ -218,7 +224,7 @@ lasts r (Millisecond ∷ es) h p k =
     let c = running r h (ap isTrying p) in
     rw (after-first r Millisecond es h, ap isTrying p)
     (by-tick
-    (λ (t : Told). inRange (t .after) ≡ true → Lasts (1 + times Millisecond es) (left r) (recordAfter (t .after) es .phase)) r
+    (λ (t : Told). inRange (t .after) ≡ true → Lasts (1 + times Millisecond es) (toFailure r) (recordAfter (t .after) es .phase)) r
     (λ a i. retold (lasts (tries (r .attempt) (r .left - 1) r) es i refl (omega arith)) (omega arith) (omega arith))
     (λ a b i. let m = attempt-more (r .attempt) (r .wait) b in
     retold (lasts (tries (r .attempt + 1) (r .wait) r) es i refl (omega arith)) (omega arith) (omega arith))

@@ -44,7 +44,7 @@ unfoldable pub verifies : Record → List Event → ℕ
 verifies r [] = 0
 verifies r (e ∷ es) = one (stepOf r e .said .ordered) + verifies (stepOf r e .after) es
 
--- the wait that an event carries; only enable has one
+-- the wait that an event carries; only enable has one, and 0 is none
 abbrev pub carried : Event → ℕ
 carried (Enable n) = n
 carried Disable = 0
