@@ -3,8 +3,8 @@
 use mathlib.Core.Path.{_≡_, sym, _∙_}
 use mathlib.Core.Bool.{Bool}
 use Prim.Native.Nat.{ℕ}
-use Rattle.verify.specs.Verify.{said}
-use Rattle.verify.specs.declared.Answer.{Answer}
+use Rattle.verify_answers.specs.Answers.{said}
+use Rattle.verify_answers.specs.declared.Answer.{Answer}
 use Rattle.verify.specs.declared.Event.{Event}
 use Rattle.words.specs.Words.{flag}
 use Rattle.event_words.specs.Events.{isEvent, eventOf}

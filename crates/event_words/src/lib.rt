@@ -1,8 +1,8 @@
 // An event's number and what a step of the verification answers, as words of 32 bits.
-use verify::Answer;
 use verify::Event;
+use verify_answers::Answer;
 ghost use mathlib.Core.Path.{_≡_};
-ghost use Rattle.verify.specs.Verify.{said};
+ghost use Rattle.verify_answers.specs.Answers.{said};
 ghost use Rattle.words.specs.Words.{flag};
 ghost use Rattle.event_words.specs.Events.{isEvent, eventOf};
 

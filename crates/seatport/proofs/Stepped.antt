@@ -5,8 +5,8 @@ use mathlib.Core.Logic.{_⊎_, inl, inr}
 use mathlib.Core.Bool.{Bool, true, false, _&&_, false≢true}
 use mathlib.Core.List.{List}
 use Prim.Native.Nat.{ℕ}
-use Rattle.verify.specs.Verify.{Told, said, told}
-use Rattle.verify.specs.declared.Stepped.{Stepped}
+use Rattle.verify_answers.specs.Answers.{Told, said, told}
+use Rattle.verify_answers.specs.declared.Stepped.{Stepped}
 use Rattle.words.specs.Words.{flag}
 use Rattle.verify_words.specs.Link.{linkWords}
 use Rattle.seatport.specs.Verifying.{Taken}

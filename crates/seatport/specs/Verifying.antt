@@ -4,7 +4,8 @@ use mathlib.Core.Path.{_≡_}
 use mathlib.Core.Bool.{cond, _&&_}
 use mathlib.Core.List.{List}
 use Prim.Native.Nat.{ℕ}
-use Rattle.verify.specs.Verify.{Told, stepOf}
+use Rattle.verify_answers.specs.Answers.{Told}
+use Rattle.verify.specs.Verify.{stepOf}
 use Rattle.words.specs.Words.{flag}
 use Rattle.verify_words.specs.Link.{linkWords, linkFits, linkOf}
 use Rattle.event_words.specs.Events.{isEvent, eventOf}

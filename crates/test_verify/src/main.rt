@@ -3,7 +3,7 @@
 use test_questions::read::Question;
 use test_questions::say;
 use test_questions::went::Went;
-use verify::Answer;
+use verify_answers::Answer;
 use verify_record::Phase;
 use verify_record::Record;
 

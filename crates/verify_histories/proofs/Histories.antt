@@ -14,7 +14,9 @@ use Rattle.verify_record.specs.Ranges.{attempts, isWait, fresh, isOff, isTrying
 use Rattle.verify_record.specs.declared.Phase.{Phase}
 use Rattle.verify_record.specs.declared.Phase.the-variants.{Off, Trying, Verified, Failed}
 use Rattle.verify_record.specs.declared.Record.{Record}
-use Rattle.verify.specs.Verify.{Told, rests, tries, begun, owing, effect, stepOf}
+use Rattle.verify_answers.specs.Answers.{Told}
+use Rattle.verify_trying.specs.Trying.{rests, tries, begun}
+use Rattle.verify.specs.Verify.{owing, effect, stepOf}
 use Rattle.verify.specs.declared.Event.{Event}
 use Rattle.verify.specs.declared.Event.the-variants.{Enable, Disable, LinkFailed, ResponseHeard, VerifyHeard, ResponseSent, Millisecond}
 use Rattle.verify.proofs.Laws.{step-taken, step-refused}

@@ -12,10 +12,13 @@ use Rattle.verify_record.proofs.Laws.{wait-known}
 use Rattle.verify_record.specs.declared.Phase.{Phase}
 use Rattle.verify_record.specs.declared.Phase.the-variants.{Off, Verified, Failed}
 use Rattle.verify_record.specs.declared.Record.{Record}
-use Rattle.verify.specs.Verify.{Told, takes, rests, tries, begun, oneLess, effect, stepOf}
+use Rattle.verify_answers.specs.Answers.{Told, takes}
+use Rattle.verify_trying.specs.Trying.{rests, tries, begun, oneLess}
+use Rattle.verify_trying.proofs.Laws.{waits, tries-again, gives-up}
+use Rattle.verify.specs.Verify.{effect, stepOf}
 use Rattle.verify.specs.declared.Event.{Event}
 use Rattle.verify.specs.declared.Event.the-variants.{Enable, Disable, LinkFailed, ResponseHeard, VerifyHeard, ResponseSent, Millisecond}
-use Rattle.verify.proofs.Laws.{step-taken, waits, tries-again, gives-up}
+use Rattle.verify.proofs.Laws.{step-taken}
 
 -- what holds in each case of a millisecond holds of it
 pub by-tick : (P : Told → Type 0) (r : Record)

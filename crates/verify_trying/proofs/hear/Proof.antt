@@ -1,9 +1,9 @@
--- `verify::hear` meets its contract.
+-- `verify_trying::hear` meets its contract.
 -- Assumes nothing.
 use mathlib.Core.Path.{sym, _∙_}
 use borrow.Author.Needs.{needs}
-use Rattle.verify.proofs.hear.Statement.{statement}
-use Rattle.verify.proofs.hear.Tie as tie
+use Rattle.verify_trying.proofs.hear.Statement.{statement}
+use Rattle.verify_trying.proofs.hear.Tie as tie
 
 is-trying-requires : tie.Need-is-trying-requires
 is-trying-requires c κs = search needs

@@ -1,11 +1,11 @@
--- `verify::enable` meets its contract.
+-- `verify_trying::enable` meets its contract.
 -- Assumes nothing.
 use mathlib.Core.Path.{sym, _∙_}
 use native.Mathlib.Omega.{arith}
 use borrow.Author.Needs.{needs}
 use Rattle.verify_record.proofs.Laws.{wait-known}
-use Rattle.verify.proofs.enable.Statement.{statement}
-use Rattle.verify.proofs.enable.Tie as tie
+use Rattle.verify_trying.proofs.enable.Statement.{statement}
+use Rattle.verify_trying.proofs.enable.Tie as tie
 
 is-wait-requires : tie.Need-is-wait-requires
 is-wait-requires c κs = search needs

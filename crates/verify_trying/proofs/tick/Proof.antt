@@ -1,9 +1,9 @@
--- `verify::tick` meets its contract.
+-- `verify_trying::tick` meets its contract.
 -- Assumes nothing.
 use mathlib.Core.Path.{sym, _∙_}
 use borrow.Author.Needs.{needs}
-use Rattle.verify.proofs.tick.Statement.{statement}
-use Rattle.verify.proofs.tick.Tie as tie
+use Rattle.verify_trying.proofs.tick.Statement.{statement}
+use Rattle.verify_trying.proofs.tick.Tie as tie
 
 is-trying-requires : tie.Need-is-trying-requires
 is-trying-requires c κs = search needs

@@ -1,11 +1,11 @@
--- `verify::count_down` meets its contract.
+-- `verify_trying::count_down` meets its contract.
 -- Assumes nothing.
 use mathlib.Core.Path.{sym, _∙_}
 use native.Mathlib.Omega.{arith}
 use borrow.Author.Needs.{needs}
-use Rattle.verify.proofs.Laws.{waits, tries-again, gives-up}
-use Rattle.verify.proofs.count_down.Statement.{statement}
-use Rattle.verify.proofs.count_down.Tie as tie
+use Rattle.verify_trying.proofs.Laws.{waits, tries-again, gives-up}
+use Rattle.verify_trying.proofs.count_down.Statement.{statement}
+use Rattle.verify_trying.proofs.count_down.Tie as tie
 
 sub-t10 : tie.Need-sub-t10
 sub-t10 c = search needs
