@@ -72,10 +72,9 @@ static void hear(struct end *end, struct mframe *way)
 	way->length = 0;
 }
 
-static void begin(void)
+/* The row as it is before anything was sent: what is still on its way is gone. */
+static void clear(void)
 {
-	near_end.receiver = far_end.receiver = fresh_receiver;
-	near_end.link = far_end.link = fresh_link;
 	for (uint32_t i = 0; i < WAY; i++)
 		there[i].length = back[i].length = 0;
 }
@@ -90,7 +89,7 @@ static void near_verifies(uint32_t now)
 	printf("  %2u ms: V of attempt %u%s\n", (unsigned)now, (unsigned)near_end.link.attempt, way->length == 0 ? ", lost" : "");
 }
 
-/* The far end owes an R for each V that it hears. */
+/* The far end owes an R once it has heard a V. */
 static void far_responds(uint32_t now)
 {
 	if (!far_end.link.owed)
@@ -100,12 +99,14 @@ static void far_responds(uint32_t now)
 	printf("  %2u ms: the far end has heard a V and sends R\n", (unsigned)now);
 }
 
-/* Enables the near end with this wait, and lets time pass until it tries no more. Whether it is verified then. */
+/* Enables the near end with this wait, and lets time pass until it tries no more. Whether it is verified then. A link that
+ * has failed must be disabled first: it neither tries again by an enable alone nor keeps another wait. */
 static int verified_with(uint32_t wait)
 {
 	uint32_t now = 0;
-	begin();
+	clear();
 	printf("the near end waits %u ms\n", (unsigned)wait);
+	tell(&near_end, SEATPORT_EVENT_DISABLE, SEATPORT_WAIT_NONE);
 	int ordered = tell(&near_end, SEATPORT_EVENT_ENABLE, wait);
 	while (near_end.link.phase == SEATPORT_PHASE_TRYING) {
 		if (ordered)
@@ -123,6 +124,8 @@ static int verified_with(uint32_t wait)
 
 int main(void)
 {
+	near_end.receiver = far_end.receiver = fresh_receiver;
+	near_end.link = far_end.link = fresh_link;
 	printf("a row of %d ms each way\n", WAY);
 	int usual = verified_with(SEATPORT_WAIT_USUAL), longer = verified_with(LONG_ROW_WAIT);
 	puts(!usual && longer ? "on this row the longer wait is needed, and is enough" : "something else came of it");

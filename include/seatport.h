@@ -252,9 +252,10 @@ enum seatport_phase {
 
 /* The wait: how many milliseconds an attempt waits for an R. IEEE 802.3br allows 1 to 128. Each enable brings a wait; the
  * record keeps the one with which off became trying, and every attempt begins with it. 10 is the usual one. A long row with
- * repeaters needs more: let it be a millisecond longer than a V takes to the other end and its R back (the first one told
- * may be half over already), so that each of the three V has its time. An R is taken as long as the link is trying,
- * whichever V it answers. The two ends need not have the same wait. examples/verification.c shows such a row. */
+ * repeaters needs more: let it be a millisecond longer than from the order of a V until its R is heard, with the mFrame that
+ * each end may have on the wire just then (the first millisecond that is told may be nearly over), so that each of the three
+ * V has its time. An R is taken as long as the link is trying, whichever V it answers. The two ends need not have the same
+ * wait. examples/verification.c shows such a row. */
 enum seatport_wait {
 	SEATPORT_WAIT_NONE = 0,   /* for any event but enable; it is not looked at. With enable it is refused */
 	SEATPORT_WAIT_MIN = 1,

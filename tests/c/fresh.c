@@ -1,6 +1,6 @@
 /* The header alone, as C99 and as C++98: it compiles without a warning, its functions link under their names, its version is
  * a number for the preprocessor, and records and entries written as it says are taken by each call. A link that is all zero
- * is refused by every event, and stays so. */
+ * is refused at every event, and stays so. */
 #include "seatport.h"
 
 #if 100 * SEATPORT_VERSION_MAJOR + SEATPORT_VERSION_MINOR < 300
@@ -38,7 +38,9 @@ int main(void)
 		return 1;
 	if (seatport_receive(&receiver, output, written.length, buffer, sizeof buffer, &detail) != SEATPORT_ANSWER_EXPRESS)
 		return 2;
-	if (seatport_step(&link, SEATPORT_EVENT_ENABLE, SEATPORT_WAIT_USUAL, &ordered) != SEATPORT_STEPPED_TAKEN)
+	if (link.wait != SEATPORT_WAIT_USUAL)
+		return 3;
+	if (seatport_step(&link, SEATPORT_EVENT_ENABLE, SEATPORT_WAIT_MAX, &ordered) != SEATPORT_STEPPED_TAKEN)
 		return 3;
 	if (seatport_gates_write(&entry, 1, list, sizeof list, &count) != SEATPORT_GATES_GOOD || count != sizeof list)
 		return 4;
@@ -51,7 +53,7 @@ int main(void)
 			return 7;
 	if (seatport_end(&stream, area, sizeof area, &receiver, buffer, sizeof buffer, &detail) != SEATPORT_ANSWER_EXPRESS)
 		return 8;
-	if (link.wait != SEATPORT_WAIT_USUAL || !zero_link_refused())
+	if (link.wait != SEATPORT_WAIT_MAX || !zero_link_refused())
 		return 9;
 	return 0;
 }

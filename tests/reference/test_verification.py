@@ -26,7 +26,7 @@ def every_record_in_range(waits=WAITS):
 
 
 def records_out_of_range():
-    """Each with one value that it must not have."""
+    """Each with a value, or two, that it must not have."""
     in_each_phase = (OFF, (Phase.TRYING, 1, 1), VERIFIED, FAILED)
     records = [(*record, False, wait) for record in in_each_phase for wait in (0, 129, 255)]
     for wait in WAITS:

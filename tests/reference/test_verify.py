@@ -172,6 +172,7 @@ class WrongOnes(unittest.TestCase):
 
     def test_wrong_in_the_wait_that_they_keep(self):
         self.each(wrong_verification.KEEPING)
+        self.each(wrong_verification.FRESH)
 
     def test_wrong_in_a_row(self):
         self.each(wrong_verification.ROWS)

@@ -279,7 +279,7 @@ def same_changes(number):
             number, lambda record, wait: replace(record, wait=wait % 256)),
         f"{number} switches off": refusing_with(
             number, lambda record, _wait: verification.outside_trying(record, Phase.OFF)),
-        f"{number} is owed nothing": refusing_with(number, lambda record, _wait: replace(record, owed=False)),
+        f"{number} clears the response owed": refusing_with(number, lambda record, _wait: replace(record, owed=False)),
         f"{number} is no refusal": taken_instead(number, False),
         f"{number} is no refusal but an order": taken_instead(number, True),
     }
@@ -470,9 +470,7 @@ ROWS = {
     **{f"{named(event)} leaves {field} as it was": after(
         event, lambda record, afterwards, _wait, field=field: replace(afterwards, **{field: getattr(record, field)}))
        for event in (Event.DISABLE, Event.LINK_FAILED, Event.R_HEARD) for field in ("attempt", "left")},
-    "fresh keeps a wait of 0": replaced("FRESH_WAIT", 0),
-    "fresh keeps a wait of 1": replaced("FRESH_WAIT", 1),
-    "fresh keeps a wait of 128": replaced("FRESH_WAIT", 128),
 }
 
-ALL = (RANGES, MOMENTS, ENABLING, REFUSING, KEEPING, ROWS)
+# Wrong in the wait of a fresh record.
+FRESH = {f"fresh keeps a wait of {wait}": replaced("FRESH_WAIT", wait) for wait in (0, 1, 128)}

@@ -1,5 +1,5 @@
--- The events of the verification by number, an enable with the wait beside it. What was heard has the number of the receiver's answer that tells it, so that the answer can be handed
--- on; the others have numbers that no answer has.
+-- The events of the verification by number, an enable with the wait beside it. What was heard has the number of the receiver's answer that tells it,
+-- so that the answer can be handed on; the others have numbers that no answer has.
 -- Assumes nothing.
 use mathlib.Core.Bool.{Bool, cond, _&&_}
 use Prim.Native.Nat.{ℕ}

@@ -3,7 +3,7 @@ use verify_record::Record;
 ghost use mathlib.Core.Path.{_≡_};
 ghost use Rattle.verify_answers.specs.Answers.{number, takes, refuses, told};
 
-// Why an event is refused: the record is outside its ranges (40), or the wait of an enable is none (41).
+// Why an event is refused: the record is outside its ranges (40), or the wait of an enable is not 1 to 128 (41).
 pub enum Refusal {
     Record,
     Wait,

@@ -58,7 +58,7 @@ pub running : (r : Record) → inRange r ≡ true → isTrying (r .phase) ≡ tr
 running r h t = counted-running r (rw t at (both (isWait (r .wait)) _ h .1))
 
 -- the wait is in its range in any phase
-pub wait-in-range : (r : Record) → inRange r ≡ true → isWait (r .wait) ≡ true
+wait-in-range : (r : Record) → inRange r ≡ true → isWait (r .wait) ≡ true
 wait-in-range r h = both (isWait (r .wait)) _ h .0
 
 -- a phase other than trying, and trying just begun, are in range

@@ -54,7 +54,7 @@ carried VerifyHeard = 0
 carried ResponseSent = 0
 carried Millisecond = 0
 
--- how often a history begins trying: the enables in off whose wait is one
+-- how often a history begins trying: the enables in off with a wait of 1 to 128
 abbrev pub begins : Record → Event → Bool
 begins r e = isWait (carried e) && isOff (r .phase)
 

@@ -92,7 +92,7 @@ impl Record {
         left <= wait
     }
 
-    // Whether the wait is one, and attempt and milliseconds left are those that it and the phase allow.
+    // Whether the wait is 1 to 128, and attempt and milliseconds left are those that it and the phase allow.
     pub fn in_range(self) -> bool
         ensures { λ b. ⌜ b ≡ inRange self ⌝ }
     {

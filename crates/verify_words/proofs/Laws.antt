@@ -16,7 +16,7 @@ use Rattle.verify_words.specs.Link.{phaseNumber, phaseOf, linkWords, lin
 use Rattle.rules.proofs.Tests.{both}
 
 -- what five words that are a record's have
-pub record Fits (w : List ℕ) : Type 0 where
+record Fits (w : List ℕ) : Type 0 where
   pub phase : word w 0 ≤ 3
   pub attempt : word w 1 ≤ 255
   pub left : word w 2 ≤ 255
