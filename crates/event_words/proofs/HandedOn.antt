@@ -23,7 +23,6 @@ no-fault F.Short = refl
 no-fault F.Long = refl
 no-fault F.Preamble = refl
 no-fault (F.Delimiter bits) = refl
-no-fault F.Place = refl
 no-fault F.Fragment = refl
 
 no-refusal : (why : Refusal) → isEvent (refusalNumber why) ≡ false

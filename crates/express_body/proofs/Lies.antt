@@ -14,11 +14,11 @@ use Rattle.receive.specs.Receive.{dataIn}
 use Rattle.express_body.specs.Body.{beginOf, delivered, bodyOf, placeOf, partIn}
 use Rattle.express_body.specs.declared.Part.{Part}
 
--- octets that lie in an mFrame from a start on; no mFrame with a body has more than 1,530
+-- octets that lie in an mFrame from a start on; no mFrame has more than 1,531
 pub record Lies (m octets : List ℕ) (start size : ℕ) : Type 0 where
   pub same : take (start + size - start) (drop start m) ≡ octets
   pub within : start + size ≤ length m
-  pub most : start + size ≤ 1530
+  pub most : start + size ≤ 1531
 
 by-head : (m : List ℕ) (h : Reading) → Good (length m) h → (b : Bool)
     → Lies m (cond b (dataIn h m) []) (cond b (beginOf h) 0) (length (cond b (dataIn h m) []))

@@ -35,7 +35,8 @@ expressDelivered K.Respond octets = false
 abbrev pub delivered : List ℕ → Bool
 delivered m = eqb (receivedOf m fresh 1518 .said .number) 0
 
--- the octets of the express body: the data, "places 8 up to the last four" (headOf has the 8), "else the empty part"
+-- the octets of the express body: the data, "places 8 up to the last four", which begin at the header's end (document 02, (vi)),
+-- "else the empty part"
 unfoldable pub bodyOf : List ℕ → List ℕ
 bodyOf m = cond (delivered m) (dataIn (headOf m) m) []
 

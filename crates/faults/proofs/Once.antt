@@ -6,12 +6,12 @@ use Prim.Native.Nat.{ℕ}
 use lib.Dec.{eqb}
 use Rattle.faults.specs.Faults.{faultNumber, faultDetail}
 use Rattle.faults.specs.declared.Fault.{Fault}
-use Rattle.faults.specs.declared.Fault.the-variants.{Short, Long, Preamble, Delimiter, Place, Fragment}
+use Rattle.faults.specs.declared.Fault.the-variants.{Short, Long, Preamble, Delimiter, Fragment}
 
 -- why a head is refused, from the number and the detail
 unfoldable pub faultOf : ℕ → ℕ → Fault
 faultOf k bits =
-    cond (eqb k 12) Short (cond (eqb k 13) Long (cond (eqb k 14) Preamble (cond (eqb k 15) (Delimiter bits) (cond (eqb k 16) Place Fragment))))
+    cond (eqb k 12) Short (cond (eqb k 13) Long (cond (eqb k 14) Preamble (cond (eqb k 15) (Delimiter bits) Fragment)))
 
 pub fault-back : (f : Fault) → faultOf (faultNumber f) (faultDetail f) ≡ f
 unfolding faultOf
@@ -19,7 +19,6 @@ fault-back Short = refl
 fault-back Long = refl
 fault-back Preamble = refl
 fault-back (Delimiter bits) = refl
-fault-back Place = refl
 fault-back Fragment = refl
 
 -- number and detail

@@ -1,14 +1,14 @@
-// Why an mFrame's head is refused (document 01, "Receiving", the table's 12 to 17): the refusals with their numbers and details.
+// Why an mFrame's head is refused (document 01, "Receiving", 12 to 15 and 17): the refusals with their numbers and details.
 ghost use mathlib.Core.Path.{_≡_};
 ghost use Rattle.faults.specs.Faults.{faultNumber, faultDetail};
 
-// Why an mFrame's head is refused: 12 to 17. An unknown delimiter has the least number of bits by which it differs from any of the eleven.
+// Why an mFrame's head is refused: 12 to 15 and 17 (16, a delimiter out of place, is no longer given: document 02, (vi)). An unknown delimiter has
+// the least number of bits by which it differs from any of the eleven.
 pub enum Fault {
     Short,
     Long,
     Preamble,
     Delimiter(u32),
-    Place,
     Fragment,
 }
 
@@ -21,7 +21,6 @@ impl Fault {
             Fault::Long => 13,
             Fault::Preamble => 14,
             Fault::Delimiter(_) => 15,
-            Fault::Place => 16,
             Fault::Fragment => 17,
         }
     }
@@ -35,7 +34,6 @@ impl Fault {
             Fault::Long => 0,
             Fault::Preamble => 0,
             Fault::Delimiter(bits) => bits as usize,
-            Fault::Place => 0,
             Fault::Fragment => 0,
         }
     }

@@ -1,9 +1,9 @@
--- What the head of any octets says (document 01, "Receiving", the table's 12 to 17 and what follows it). Assumes nothing.
-use mathlib.Core.Bool.{Bool, true, cond, _&&_}
+-- What the head of any octets says (document 01, "Receiving", with the heads of document 02, (vi)). Assumes nothing.
+use mathlib.Core.Bool.{Bool, true, false, cond}
 use mathlib.Core.List.{List, [], _∷_}
-use Prim.Native.Nat.{ℕ}
+use Prim.Native.Nat.{ℕ, _+_}
 use lib.Dec.{eqb, ltb}
-use lib.ListN.{length, take, getD}
+use lib.ListN.{length, getD}
 use Rattle.delimiters.specs.Delimiters.{delimiterOf, fragmentOf}
 use Rattle.codes.specs.declared.FrameCount.{FrameCount}
 use Rattle.delimiters.specs.declared.Delimiter.{Delimiter}
@@ -25,41 +25,47 @@ abbrev pub reading : Head → Reading
 reading (Known kind place) = known kind place
 reading (Refused fault) = refused (faultNumber fault) (faultDetail fault)
 
--- 14 is "one of places 0 to 5 is not 55"
-unfoldable pub all55 : List ℕ → Bool
-all55 [] = true
-all55 (x ∷ xs) = eqb x 0x55 && all55 xs
+-- the number of leading octets 55
+unfoldable pub leading : List ℕ → ℕ
+leading [] = 0
+leading (x ∷ m) = cond (eqb x 0x55) (1 + leading m) 0
 
--- a delimiter at place 7: a C there is out of place
-abbrev pub sevenOf : Delimiter → Reading
-sevenOf D.Express = known K.Express 8
-sevenOf (D.Start frame) = known (K.Start frame) 8
-sevenOf (D.Continuation frame) = refused 16 0
-sevenOf D.Verify = known K.Verify 8
-sevenOf D.Respond = known K.Respond 8
-sevenOf (D.Unknown bits) = refused 15 bits
+-- a header that ends at a place, of n octets in all: behind it are 64 to 1,522, else 12 or 13
+abbrev pub sizedOf : Kind → (place n : ℕ) → Reading
+sizedOf kind place n = cond (ltb n (place + 64)) (refused 12 0) (cond (ltb (place + 1522) n) (refused 13 0) (known kind place))
 
--- a C with the fragment code at place 7
-abbrev pub codedOf : FrameCount → Fragment → Reading
-codedOf frame (F.Known fragment) = known (K.Continuation frame fragment) 8
-codedOf frame F.Unknown = refused 17 0
+-- a C whose fragment code is read: 17 is any octet but the four
+abbrev pub codedOf : FrameCount → Fragment → (place n : ℕ) → Reading
+codedOf frame (F.Known fragment) place n = sizedOf (K.Continuation frame fragment) place n
+codedOf frame F.Unknown place n = refused 17 0
 
--- a delimiter at place 6: any of the other seven is out of place there
-abbrev pub sixOf : Delimiter → Fragment → Reading
-sixOf D.Express code = refused 16 0
-sixOf (D.Start frame) code = refused 16 0
-sixOf (D.Continuation frame) code = codedOf frame code
-sixOf D.Verify code = refused 16 0
-sixOf D.Respond code = refused 16 0
-sixOf (D.Unknown bits) code = refused 15 bits
+-- a C, with the fragment code at a place; "input that ends before its .. fragment code is 12"
+abbrev pub fragmentedOf : FrameCount → (place : ℕ) → List ℕ → Reading
+fragmentedOf frame place m = cond (ltb place (length m)) (codedOf frame (fragmentOf (getD m place 0)) (place + 1) (length m)) (refused 12 0)
 
--- "If place 6 is 55 the delimiter is place 7, else place 6"
-abbrev pub placedOf : List ℕ → Reading
-placedOf m =
-    cond (eqb (getD m 6 0) 0x55) (sevenOf (delimiterOf (getD m 7 0))) (sixOf (delimiterOf (getD m 6 0)) (fragmentOf (getD m 7 0)))
+-- by the delimiter, which ends before a place
+abbrev pub delimitedOf : Delimiter → (place : ℕ) → List ℕ → Reading
+delimitedOf D.Express place m = sizedOf K.Express place (length m)
+delimitedOf (D.Start frame) place m = sizedOf (K.Start frame) place (length m)
+delimitedOf (D.Continuation frame) place m = fragmentedOf frame place m
+delimitedOf D.Verify place m = sizedOf K.Verify place (length m)
+delimitedOf D.Respond place m = sizedOf K.Respond place (length m)
+delimitedOf (D.Unknown bits) place m = refused 15 bits
 
--- the refusals 12 to 17 in the table's order
+-- behind n leading octets 55: "14 becomes eight or more"; "the delimiter is the first octet that isn't 55"; "input that ends before its delimiter
+-- .. is 12". So the refusals come in the order 14, 15, 17, 12, 13.
+abbrev pub behind : (n : ℕ) → List ℕ → Reading
+behind n m = cond (ltb 7 n) (refused 14 0) (cond (ltb n (length m)) (delimitedOf (delimiterOf (getD m n 0)) (n + 1) m) (refused 12 0))
+
 unfoldable pub headOf : List ℕ → Reading
-headOf m =
-    cond (ltb (length m) 72) (refused 12 0)
-    (cond (ltb 1530 (length m)) (refused 13 0) (cond (all55 (take 6 m)) (placedOf m) (refused 14 0)))
+headOf m = behind (leading m) m
+
+-- whether a head is known
+abbrev pub isKnown : Reading → Bool
+isKnown (known kind place) = true
+isKnown (refused number detail) = false
+
+-- what a head of more octets than any mFrame has says, by what its first 1,531 say: 14, 15 and 17 stay, any other is 13
+abbrev pub beyond : Reading → Reading
+beyond (known kind place) = refused 13 0
+beyond (refused number detail) = refused number detail

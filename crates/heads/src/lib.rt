@@ -4,6 +4,7 @@ mod read;
 use faults::Fault;
 use mframe::Kind;
 pub use read::head_of;
+pub use read::is_known;
 
 // What the head of an mFrame says: its kind and the place where the data begin, or why it is refused.
 pub enum Head {

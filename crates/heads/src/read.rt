@@ -4,67 +4,75 @@ use codes::FrameCount;
 use delimiters::Delimiter;
 use delimiters::Fragment;
 use faults::Fault;
-use mframe::HEADER;
 use mframe::Kind;
 ghost use mathlib.Core.Path.{_≡_};
-ghost use Prim.Native.Nat.{_≤_};
-ghost use lib.ListN.{length, take};
-ghost use Rattle.delimiters.specs.Delimiters.{delimiterOf, fragmentOf};
-ghost use Rattle.heads.specs.Head.{all55, reading, sevenOf, sixOf, codedOf, headOf};
+ghost use Prim.Native.Nat.{min, _≤_};
+ghost use Rattle.heads.specs.Head.{leading, reading, sizedOf, fragmentedOf, delimitedOf, headOf, isKnown};
 
-// The least and the greatest mFrame.
-const LEAST: usize = 72;
+// The least and the most octets behind a header.
+const LEAST: usize = 64;
 
-const MOST: usize = 1530;
+const MOST: usize = 1522;
 
-// Four octets 55 as a number.
-const FOUR_55: u32 = 0x55555555;
+// A preamble has fewer octets 55 than this.
+const TOO_MANY: u32 = 8;
 
-// Whether the octets of places 0 to 5 are 55: two numbers, of places 0 to 3 and of 2 to 5, since each octet by itself took twelve instructions more.
-fn preambled(mframe: &[u8]) -> bool
-    requires { ⌜ 6 ≤ length (now mframe) ⌝ }
-    ensures { λ r. ⌜ r ≡ all55 (take 6 (now (mframe .entry))) ⌝ }
+// How many octets 55 lead; the count stops where there are too many, so that no input is gone through to its end.
+fn lead(mframe: &[u8]) -> u32
+    ensures { λ n. ⌜ n ≡ min 8 (leading (now (mframe .entry))) ⌝ }
 {
-    if fours::load(mframe, 0) != FOUR_55 {
-        return false;
+    let mut n: u32 = 0;
+    while n < TOO_MANY {
+        if mframe.len() <= n as usize {
+            return n;
+        }
+        if mframe[n as usize] != 0x55 {
+            return n;
+        }
+        n += 1;
     }
-    fours::load(mframe, 2) == FOUR_55
+    TOO_MANY
 }
 
-// A delimiter at place 7.
-fn at_seven(octet: u8) -> Head
-    ensures { λ r. ⌜ reading r ≡ sevenOf (delimiterOf octet) ⌝ }
+// A kind whose header ends at a place: whether the octets behind it are as many as an mFrame has.
+fn sized(kind: Kind, place: usize, length: usize) -> Head
+    requires { ⌜ place ≤ 9 ⌝ }
+    ensures { λ r. ⌜ reading r ≡ sizedOf kind place length ⌝ }
 {
-    match delimiters::delimiter_of(octet) {
-        Delimiter::Express => Head::Known(Kind::Express, HEADER),
-        Delimiter::Start(frame) => Head::Known(Kind::Start(frame), HEADER),
-        Delimiter::Continuation(_) => Head::Refused(Fault::Place),
-        Delimiter::Verify => Head::Known(Kind::Verify, HEADER),
-        Delimiter::Respond => Head::Known(Kind::Respond, HEADER),
-        Delimiter::Unknown(bits) => Head::Refused(Fault::Delimiter(bits)),
+    if length < place + LEAST {
+        return Head::Refused(Fault::Short);
     }
+    if place + MOST < length {
+        return Head::Refused(Fault::Long);
+    }
+    Head::Known(kind, place)
 }
 
-// A continuation's fragment code.
-fn coded(frame: FrameCount, octet: u8) -> Head
-    ensures { λ r. ⌜ reading r ≡ codedOf frame (fragmentOf octet) ⌝ }
+// A continuation, with its fragment code at place code.
+fn fragmented(frame: FrameCount, code: usize, mframe: &[u8]) -> Head
+    requires { ⌜ code ≤ 8 ⌝ }
+    ensures { λ r. ⌜ reading r ≡ fragmentedOf frame code (now (mframe .entry)) ⌝ }
 {
-    match delimiters::fragment_of(octet) {
-        Fragment::Known(fragment) => Head::Known(Kind::Continuation(frame, fragment), HEADER),
+    if mframe.len() <= code {
+        return Head::Refused(Fault::Short);
+    }
+    match delimiters::fragment_of(mframe[code]) {
+        Fragment::Known(fragment) => sized(Kind::Continuation(frame, fragment), code + 1, mframe.len()),
         Fragment::Unknown => Head::Refused(Fault::Fragment),
     }
 }
 
-// A delimiter at place 6, with the octet after it.
-fn at_six(octet: u8, code: u8) -> Head
-    ensures { λ r. ⌜ reading r ≡ sixOf (delimiterOf octet) (fragmentOf code) ⌝ }
+// A delimiter that ends before a place.
+fn delimited(delimiter: Delimiter, place: usize, mframe: &[u8]) -> Head
+    requires { ⌜ place ≤ 8 ⌝ }
+    ensures { λ r. ⌜ reading r ≡ delimitedOf delimiter place (now (mframe .entry)) ⌝ }
 {
-    match delimiters::delimiter_of(octet) {
-        Delimiter::Continuation(frame) => coded(frame, code),
-        Delimiter::Express => Head::Refused(Fault::Place),
-        Delimiter::Start(_) => Head::Refused(Fault::Place),
-        Delimiter::Verify => Head::Refused(Fault::Place),
-        Delimiter::Respond => Head::Refused(Fault::Place),
+    match delimiter {
+        Delimiter::Express => sized(Kind::Express, place, mframe.len()),
+        Delimiter::Start(frame) => sized(Kind::Start(frame), place, mframe.len()),
+        Delimiter::Continuation(frame) => fragmented(frame, place, mframe),
+        Delimiter::Verify => sized(Kind::Verify, place, mframe.len()),
+        Delimiter::Respond => sized(Kind::Respond, place, mframe.len()),
         Delimiter::Unknown(bits) => Head::Refused(Fault::Delimiter(bits)),
     }
 }
@@ -72,17 +80,22 @@ fn at_six(octet: u8, code: u8) -> Head
 pub fn head_of(mframe: &[u8]) -> Head
     ensures { λ r. ⌜ reading r ≡ headOf (now (mframe .entry)) ⌝ }
 {
-    if mframe.len() < LEAST {
+    let place = lead(mframe) as usize;
+    if place == TOO_MANY as usize {
+        return Head::Refused(Fault::Preamble);
+    }
+    if mframe.len() <= place {
         return Head::Refused(Fault::Short);
     }
-    if MOST < mframe.len() {
-        return Head::Refused(Fault::Long);
+    delimited(delimiters::delimiter_of(mframe[place]), place + 1, mframe)
+}
+
+// Whether octets have a head that is not refused.
+pub fn is_known(mframe: &[u8]) -> bool
+    ensures { λ b. ⌜ b ≡ isKnown (headOf (now (mframe .entry))) ⌝ }
+{
+    match head_of(mframe) {
+        Head::Known(_, _) => true,
+        Head::Refused(_) => false,
     }
-    if preambled(mframe) {
-        if mframe[6] == 0x55 {
-            return at_seven(mframe[7]);
-        }
-        return at_six(mframe[6], mframe[7]);
-    }
-    Head::Refused(Fault::Preamble)
 }

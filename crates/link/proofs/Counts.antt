@@ -18,7 +18,7 @@ further a b d e = omega arith
 abbrev pub Runs : ℕ → List Fate → Type 0
 Runs c [] = Unit {0}
 Runs c (lost ∷ l) = (suc c ≤ 3) × Runs (suc c) l
-Runs c (arrives ∷ l) = Runs 0 l
+Runs c (arrives k ∷ l) = Runs 0 l
 
 never-behind : (p l : List Fate) → NeverFour (p ++ l) → NeverFour l
 never-behind p l h x y e = h (p ++ x) y (rw (e, append-assoc))
@@ -27,19 +27,19 @@ mutual
   pub runs : (l : List Fate) → NeverFour l → Runs 0 l
   runs [] h = tt
   runs (lost ∷ l) h = (omega arith, runs-one l h)
-  runs (arrives ∷ l) h = runs l (never-behind (arrives ∷ []) l h)
+  runs (arrives k ∷ l) h = runs l (never-behind (arrives k ∷ []) l h)
 
   runs-one : (l : List Fate) → NeverFour (lost ∷ l) → Runs 1 l
   runs-one [] h = tt
   runs-one (lost ∷ l) h = (omega arith, runs-two l h)
-  runs-one (arrives ∷ l) h = runs l (never-behind (lost ∷ arrives ∷ []) l h)
+  runs-one (arrives k ∷ l) h = runs l (never-behind (lost ∷ arrives k ∷ []) l h)
 
   runs-two : (l : List Fate) → NeverFour (lost ∷ lost ∷ l) → Runs 2 l
   runs-two [] h = tt
   runs-two (lost ∷ l) h = (omega arith, runs-three l h)
-  runs-two (arrives ∷ l) h = runs l (never-behind (lost ∷ lost ∷ arrives ∷ []) l h)
+  runs-two (arrives k ∷ l) h = runs l (never-behind (lost ∷ lost ∷ arrives k ∷ []) l h)
 
   runs-three : (l : List Fate) → NeverFour (lost ∷ lost ∷ lost ∷ l) → Runs 3 l
   runs-three [] h = tt
   runs-three (lost ∷ l) h = absurd (h [] l refl)
-  runs-three (arrives ∷ l) h = runs l (never-behind (lost ∷ lost ∷ lost ∷ arrives ∷ []) l h)
+  runs-three (arrives k ∷ l) h = runs l (never-behind (lost ∷ lost ∷ lost ∷ arrives k ∷ []) l h)

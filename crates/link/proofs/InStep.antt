@@ -18,7 +18,7 @@ use Rattle.receiver_record.specs.Records.{fresh, counting, inRange}
 use Rattle.outcomes.specs.Outcomes.{Step, unchanged}
 use Rattle.receive.specs.Receive.{byHead, receivedOf, dataIn, bufferOf}
 use Rattle.express_body.specs.Body.{bodyOf}
-use Rattle.heads.proofs.Heads.{Refusal, n12, n13, n14, n15, n16, n17, Good, head-good}
+use Rattle.heads.proofs.Heads.{Refusal, n12, n13, n14, n15, n17, Good, head-good}
 use Rattle.endings.proofs.Endings.{ends}
 use Rattle.receive_histories.specs.History.{isStart, refusal}
 use Rattle.link.specs.Frames.{ifSo}
@@ -36,7 +36,6 @@ not-written n12 = (refl, refl)
 not-written n13 = (refl, refl)
 not-written n14 = (refl, refl)
 not-written (n15 bits h) = (refl, refl)
-not-written n16 = (refl, refl)
 not-written n17 = (refl, refl)
 
 -- any octets, given to two receivers that are alike

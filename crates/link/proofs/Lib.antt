@@ -1,4 +1,5 @@
 pub mod Counts
+pub mod Shortened
 pub mod Taken
 pub mod Buffer
 pub mod Flow

@@ -32,7 +32,8 @@ pub record Demand3 : Type 0 where
   -- "Both ends start fresh, preemption active throughout, records and an assembly buffer of at least 1,518 octets handed on untouched but for hold
   -- and extra, each frame's octets the same until its end. mFrames arrive unaltered, in order and once, except that some are lost, but never four
   -- preemptable ones in a row, those of other kinds not counted. Then the frames delivered are exactly those sent to their end that lost no
-  -- mFrame, each lane in its sending order." (Active throughout: `sent` begins with an active record, and no call sets that field.)
+  -- mFrame, each lane in its sending order." (Active throughout: `sent` begins with an active record, and no call sets that field.) "Demand 3 also
+  -- holds when the link drops any number of leading 55s": of each mFrame that arrives any number, chosen with its fate.
   pub delivers : (calls : List Call) (buffer : List ℕ) → 1518 ≤ length buffer → SameToEnd none (sent calls) → NeverFour (fates (sent calls))
       → Delivers (sent calls) (receiving fresh buffer (arrivals (sent calls)))
   -- "And after any octets at all, from the next unrefused start of a preemptable frame on, a receiver delivers what a fresh one with as long a

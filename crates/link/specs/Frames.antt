@@ -1,9 +1,10 @@
 -- What demand 3 asks of the mFrames sent, which of them arrive, and the frames that it expects, clause by clause. Assumes nothing.
 use mathlib.Core.Path.{_≡_}
-use mathlib.Core.Bool.{Bool, true, false}
+use mathlib.Core.Bool.{Bool, true, false, cond, _&&_}
 use mathlib.Core.List.{List, [], _∷_, _++_}
 use mathlib.Core.Option.{Option, none, some}
-use Prim.Native.Nat.{ℕ}
+use Prim.Native.Nat.{ℕ, _-_}
+use lib.Dec.{eqb, ltb}
 use Rattle.link.specs.Sender.{Fate, arrives, lost, MFrame, express, part, order}
 
 -- "each frame's octets the same until its end": a part's body is that of the frame in progress, if there is one; begun has that
@@ -32,17 +33,27 @@ fates (order octets fate ∷ ms) = fates ms
 abbrev pub NeverFour : List Fate → Type 0
 NeverFour l = (before after : List Fate) → l ≡ before ++ (lost ∷ lost ∷ lost ∷ lost ∷ after) → ⊥
 
--- what an mFrame brings, if it arrives
-abbrev pub ifArrives : Fate → List ℕ → List (List ℕ)
-ifArrives arrives x = x ∷ []
-ifArrives lost x = []
+-- "the link drops any number of leading 55s": octets without n of theirs, or without as many as there are
+unfoldable pub shortened : (n : ℕ) → List ℕ → List ℕ
+shortened n [] = []
+shortened n (x ∷ m) = cond (ltb 0 n && eqb x 0x55) (shortened (n - 1) m) (x ∷ m)
 
--- "mFrames arrive unaltered, in order and once, except that some are lost"
+-- what an mFrame brings, if it arrives
+abbrev pub brings : Fate → List ℕ → List (List ℕ)
+brings (arrives dropped) octets = shortened dropped octets ∷ []
+brings lost octets = []
+
+-- "mFrames arrive unaltered" but for that, "in order and once, except that some are lost"
 unfoldable pub arrivals : List MFrame → List (List ℕ)
 arrivals [] = []
-arrivals (express body octets fate ∷ ms) = ifArrives fate octets ++ arrivals ms
-arrivals (part body done octets fate ∷ ms) = ifArrives fate octets ++ arrivals ms
-arrivals (order octets fate ∷ ms) = ifArrives fate octets ++ arrivals ms
+arrivals (express body octets fate ∷ ms) = brings fate octets ++ arrivals ms
+arrivals (part body done octets fate ∷ ms) = brings fate octets ++ arrivals ms
+arrivals (order octets fate ∷ ms) = brings fate octets ++ arrivals ms
+
+-- a body, if its mFrame arrives
+abbrev pub ifArrives : Fate → List ℕ → List (List ℕ)
+ifArrives (arrives dropped) body = body ∷ []
+ifArrives lost body = []
 
 -- the express lane: an express frame is one mFrame, and ends with it
 unfoldable pub expressExpected : List MFrame → List (List ℕ)
@@ -65,7 +76,7 @@ framesSent begun (order octets fate ∷ ms) = framesSent begun ms
 
 unfoldable pub noneLost : List Fate → Bool
 noneLost [] = true
-noneLost (arrives ∷ l) = noneLost l
+noneLost (arrives dropped ∷ l) = noneLost l
 noneLost (lost ∷ l) = false
 
 -- one, or none

@@ -12,8 +12,10 @@ use Rattle.sender_record.specs.Record.{freshOf}
 use Rattle.sender_record.specs.declared.Record.{Record}
 use Rattle.send.specs.Preemptable.{preemptableOf}
 
+-- what becomes of an mFrame on the link: it arrives without so many of its leading octets 55, or as many as it has; or it is lost
 pub data Fate : Type 0 where
-  arrives lost : Fate
+  arrives : (dropped : ℕ) → Fate
+  lost : Fate
 
 -- a call with all that its caller chooses: the body, the buffer lent (any length, any octets), for a preemptable call also hold, extra and the
 -- ask; and the fate of the mFrame, should it send one

@@ -3,7 +3,7 @@
 use mathlib.Core.Path.{_≡_, refl}
 use Rattle.faults.specs.Faults.{faultNumber}
 use Rattle.faults.specs.declared.Fault.{Fault}
-use Rattle.faults.specs.declared.Fault.the-variants.{Short, Long, Preamble, Delimiter, Place, Fragment}
+use Rattle.faults.specs.declared.Fault.the-variants.{Short, Long, Preamble, Delimiter, Fragment}
 use Rattle.outcomes.specs.Outcomes.{delimiterError, isStray}
 
 pub stray-numbered : (why : Fault) → isStray why ≡ delimiterError (faultNumber why)
@@ -11,5 +11,4 @@ stray-numbered Short = refl
 stray-numbered Long = refl
 stray-numbered Preamble = refl
 stray-numbered (Delimiter bits) = refl
-stray-numbered Place = refl
 stray-numbered Fragment = refl

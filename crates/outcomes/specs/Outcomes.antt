@@ -4,7 +4,7 @@ use mathlib.Core.Bool.{Bool, true, false, cond, _||_}
 use Prim.Native.Nat.{ℕ}
 use lib.Dec.{eqb}
 use Rattle.faults.specs.declared.Fault.{Fault}
-use Rattle.faults.specs.declared.Fault.the-variants.{Short, Long, Preamble, Delimiter, Place, Fragment}
+use Rattle.faults.specs.declared.Fault.the-variants.{Short, Long, Preamble, Delimiter, Fragment}
 use Rattle.receiver_answers.specs.Answers.{Said, said}
 use Rattle.receiver_record.specs.declared.Record.{Record}
 use Rattle.counters.specs.Counters.{erred, strayed}
@@ -19,17 +19,16 @@ pub record Step : Type 0 where
 abbrev pub told : Received → Step
 told r = record { said = said (r .answer); after = r .after }
 
--- "delimiter errors: one for each 15, 16, 17, 22"
+-- "delimiter errors: one for each 15, 16, 17, 22"; 16 is no longer given (document 02, (vi))
 abbrev pub delimiterError : ℕ → Bool
-delimiterError n = eqb n 15 || (eqb n 16 || (eqb n 17 || eqb n 22))
+delimiterError n = eqb n 15 || (eqb n 17 || eqb n 22)
 
--- which of the refusals by the head, 12 to 17, these are
+-- which of the refusals by the head these are
 abbrev pub isStray : Fault → Bool
 isStray Short = false
 isStray Long = false
 isStray Preamble = false
 isStray (Delimiter bits) = true
-isStray Place = true
 isStray Fragment = true
 
 -- an answer that is one: it is counted, and all else stays

@@ -50,7 +50,6 @@ fn is_stray(why: Fault) -> bool
         Fault::Long => false,
         Fault::Preamble => false,
         Fault::Delimiter(_) => true,
-        Fault::Place => true,
         Fault::Fragment => true,
     }
 }

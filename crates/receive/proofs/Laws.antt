@@ -19,7 +19,7 @@ use Rattle.faults.specs.Faults.{faultNumber}
 use Rattle.mframe.specs.declared.Kind.{Kind}
 use Rattle.mframe.specs.declared.Kind.the-variants as K
 use Rattle.faults.specs.declared.Fault.{Fault}
-use Rattle.faults.specs.declared.Fault.the-variants.{Short, Long, Preamble, Delimiter, Place, Fragment}
+use Rattle.faults.specs.declared.Fault.the-variants.{Short, Long, Preamble, Delimiter, Fragment}
 use Rattle.receiver_record.specs.declared.Record.{Record}
 use Rattle.receiver_answers.specs.declared.Refusal.{Refusal}
 use Rattle.receiver_answers.specs.declared.Refusal.the-variants as R
@@ -40,7 +40,6 @@ refused-writes Short = refl
 refused-writes Long = refl
 refused-writes Preamble = refl
 refused-writes (Delimiter bits) = refl
-refused-writes Place = refl
 refused-writes Fragment = refl
 
 -- the answers that keep the data are those whose number has them written

@@ -33,7 +33,7 @@ use Rattle.continuing.specs.Continuing.{endedOf, unexpected, totalOf, continuat
 use Rattle.starting.specs.Starting.{startOf}
 use Rattle.assembly.specs.Steps.{expressOf, heardOf, stepOf}
 use Rattle.receive.specs.Receive.{byHead, receivedOf, upTo, leftOf, dataIn, bufferOf}
-use Rattle.heads.proofs.Heads.{Refusal, n12, n13, n14, n15, n16, n17, Good, head-good}
+use Rattle.heads.proofs.Heads.{Refusal, n12, n13, n14, n15, n17, Good, head-good}
 use Rattle.endings.proofs.Endings.{data-length, Ends, ends}
 
 -- an assembly that is open
@@ -119,7 +119,7 @@ module _ (s b : List ℕ) (low : 64 ≤ length s) (high : length s ≤ 1522) (sp
   kind-right K.Verify {r} h w = heard-right (says 3 0) (endingOf allOnes s) r w w
   kind-right K.Respond {r} h w = heard-right (says 4 0) (endingOf allOnes s) r w w
 
--- a head that is refused, with a number from 12 to 17
+-- a head that is refused, with a number from 12 to 15 or 17
 stray-right : {r : Record} {b : List ℕ} → Right r b → Right (counting (strayed (r .counters)) r) b
 stray-right idle = idle
 stray-right (going w) = going w
@@ -130,7 +130,6 @@ refused-right n12 w = w
 refused-right n13 w = w
 refused-right n14 w = w
 refused-right (n15 bits h) w = stray-right w
-refused-right n16 w = stray-right w
 refused-right n17 w = stray-right w
 
 head-right : (m : List ℕ) {r : Record} {b : List ℕ} (h : Reading) → Good (length m) h → 1518 ≤ length b → Right r b

@@ -26,7 +26,7 @@ use Rattle.continuing.specs.Continuing.{endedOf, unexpected, totalOf, continuat
 use Rattle.starting.specs.Starting.{one, startOf}
 use Rattle.assembly.specs.Steps.{expressOf, heardOf, stepOf}
 use Rattle.receive.specs.Receive.{byHead, receivedOf}
-use Rattle.heads.proofs.Heads.{Refusal, n12, n13, n14, n15, n16, n17, Good, head-good}
+use Rattle.heads.proofs.Heads.{Refusal, n12, n13, n14, n15, n17, Good, head-good}
 use Rattle.receive_histories.specs.History.{Call, callOf, started, delivered, abandoning, damagedStart, misdelimited, completing, continuing}
 use Rattle.receive_histories.proofs.Right.{Right, idle, going, right-ranges}
 
@@ -133,7 +133,6 @@ refused-tally r n12 = record { balance = omega arith; moved = moved-none (r .cou
 refused-tally r n13 = record { balance = omega arith; moved = moved-none (r .counters) }
 refused-tally r n14 = record { balance = omega arith; moved = moved-none (r .counters) }
 refused-tally r (n15 bits h) = record { balance = omega arith; moved = moved-strayed (r .counters) }
-refused-tally r n16 = record { balance = omega arith; moved = moved-strayed (r .counters) }
 refused-tally r n17 = record { balance = omega arith; moved = moved-strayed (r .counters) }
 
 head-tally : (m : List ℕ) (h : Reading) {r : Record} {b : List ℕ} → Good (length m) h → Right r b → Tally h r (byHead h m r)

@@ -77,7 +77,7 @@ abandoning c = (started c || (eqb (c .number) 23 || (eqb (c .number) 24 || eqb (
 abbrev pub damagedStart : Call → Bool
 damagedStart c = eqb (c .number) 25 && isStart (c .head)
 
--- "delimiter errors: one for each 15, 16, 17, 22"
+-- "delimiter errors: one for each 15, 16, 17, 22", of which 16 is no longer given
 abbrev pub misdelimited : Call → Bool
 misdelimited c = delimiterError (c .number)
 

@@ -4,7 +4,7 @@ use mathlib.Core.Path.{_≡_, refl, sym, ap, _∙_}
 use mathlib.Core.Bool.{cond}
 use Prim.Native.Nat.{ℕ}
 use lib.Dec.{eqb, ltb}
-use Rattle.faults.specs.declared.Fault.the-variants.{Short, Long, Preamble, Delimiter, Place, Fragment}
+use Rattle.faults.specs.declared.Fault.the-variants.{Short, Long, Preamble, Delimiter, Fragment}
 use Rattle.faults.proofs.Once.{faultOf}
 use Rattle.receiver_answers.specs.declared.Refusal.{Refusal}
 use Rattle.receiver_answers.specs.declared.Refusal.the-variants.{Buffer, Record as Range, Head}
@@ -45,7 +45,6 @@ back (A.Refused (Head Short)) = refl
 back (A.Refused (Head Long)) = refl
 back (A.Refused (Head Preamble)) = refl
 back (A.Refused (Head (Delimiter bits))) = refl
-back (A.Refused (Head Place)) = refl
 back (A.Refused (Head Fragment)) = refl
 back (A.Dropped D.Express) = refl
 back (A.Dropped D.Heard) = refl

@@ -1,6 +1,6 @@
 -- The promise of an end, told in words, from what is known at each return of the code; and that it is an end of `stream`.
 -- Assumes nothing.
-use mathlib.Core.Path.{_≡_, refl, sym, ap, ap₂, _∙_}
+use mathlib.Core.Path.{_≡_, refl, sym, ap, ap₂, subst, _∙_}
 use mathlib.Core.Bool.{Bool, true, false, cond, _&&_}
 use mathlib.Core.List.{List, [], _∷_}
 use Prim.Native.Nat.{ℕ, _-_, _≤_, _<_}
@@ -9,16 +9,19 @@ use native.Mathlib.Omega.{arith}
 use borrow.Author.Tests.{le-ltb, ne-eqb}
 use lib.Dec.{ltb}
 use lib.ListN.{length, take}
+use Rattle.heads.specs.Head.{refused, headOf}
+use Rattle.receiver_record.specs.declared.Record.{Record}
 use Rattle.receiver_record.specs.Records.{inRange}
+use Rattle.receive.specs.Receive.{receivedOf, bufferOf}
 use Rattle.receiver_answers.specs.Answers.{says}
 use Rattle.outcomes.specs.Outcomes.{Step}
 use Rattle.receiver_words.specs.Receiver.{receiverWords, receiverFits, receiverOf}
 use Rattle.receiver_words.proofs.Laws.{receiver-written}
 use Rattle.stream.specs.declared.Given.the-variants.{End}
-use Rattle.stream.specs.Stream.{most, unsound, heard, Turn, streamOf}
+use Rattle.stream.specs.Stream.{most, unsound, heard, isCut, Turn, streamOf}
 use Rattle.stream.proofs.Laws.{long-received, long-buffer}
-use Rattle.stream.proofs.Heard.{too-long}
-use Rattle.words.specs.Words.{word, flagAt}
+use Rattle.stream.proofs.Heard.{cut-long, kept-alike}
+use Rattle.words.specs.Words.{word}
 use Rattle.stream_words.specs.State.{stateOf, stateWords, refusalOf, tooLong}
 use Rattle.stream_words.proofs.Laws.{passed, state-written, numberOf, detailOf}
 use Rattle.seatport.specs.Receiving.{Receiving, Received, told, unfit, receivingOf}
@@ -42,8 +45,8 @@ written (a ∷ f ∷ g ∷ k ∷ c ∷ e ∷ d ∷ m ∷ n ∷ o ∷ l) h q = ab
 numbered : ℕ → List ℕ → List ℕ → Receiving
 numbered n w b = record { number = n; detail = 0; receiver = w; buffer = b }
 
--- more octets than an mFrame can have: the number alone is told, and nothing changes
-long-words : (w m b : List ℕ) → length w ≡ 9 → most < length m → receivingOf w m b ≡ numbered (tooLong w (length b)) w b
+-- octets whose head is refused as too long: the number alone is told, and nothing changes
+long-words : (w m b : List ℕ) → length w ≡ 9 → headOf m ≡ refused 13 0 → receivingOf w m b ≡ numbered (tooLong w (length b)) w b
 unfolding receivingOf tooLong numbered
 long-words w m b nine h =
     ap₂ (λ (p : Step) (l : List ℕ). cond (receiverFits w) (told p l) (unfit w b)) (long-received m h (receiverOf w) (length b)) (long-buffer m h (receiverOf w) b)
@@ -58,27 +61,37 @@ long-words w m b nine h =
     go false true good q = refl
     go false false good q = refl
 
--- an end: refused; of a run with more octets; of one without
+-- octets with which the first receiver does the same are told alike
+alike-words : (w m m′ b : List ℕ) → ((r : Record) (room : ℕ) → receivedOf m r room ≡ receivedOf m′ r room) → ((r : Record) (l : List ℕ) → bufferOf m r l ≡ bufferOf m′ r l)
+    → receivingOf w m b ≡ receivingOf w m′ b
+unfolding receivingOf
+alike-words w m m′ b f g = rw (f (receiverOf w) (length b), g (receiverOf w) b)
+
+-- an end: refused; of a run that is cut; of one that is not
 module _ (v area w b : List ℕ) where
-  pub refused : {number : ℕ} → (number ≡ 0 → ⊥) → number ≡ refusalOf v (length area) → Ended (endOf v area w b) number v 0 w b
+  pub refused-end : {number : ℕ} → (number ≡ 0 → ⊥) → number ≡ refusalOf v (length area) → Ended (endOf v area w b) number v 0 w b
   unfolding endOf
-  refused some e =
+  refused-end some e =
       simp (ne-eqb (refusalOf v (length area)) 0 (λ q. some (e ∙ q))) (record { answer = e; state = refl; value = refl; after = refl; octets = refl })
 
   module _ (none : refusalOf v (length area) ≡ 0) where
-    pub ended-long : {number : ℕ} → flagAt v 1 ≡ true → length w ≡ 9 → number ≡ tooLong w (length b) → Ended (endOf v area w b) number (0 ∷ 0 ∷ []) 0 w b
+    pub ended-long : {number : ℕ} → isCut (stateOf v) area ≡ true → length w ≡ 9 → number ≡ tooLong w (length b) → Ended (endOf v area w b) number (0 ∷ 0 ∷ []) 0 w b
     unfolding endOf numbered
-    ended-long more nine e =
+    ended-long cut nine e =
         let p = passed v (length area) none in
-        let l = long-words w (heard (stateOf v) area) b nine (too-long (stateOf v) (p .sound) area (p .roomy) more) in
+        let l = long-words w (heard (stateOf v) area) b nine (cut-long (stateOf v) (p .sound) area (p .roomy) cut) in
         simp (none, l) (record { answer = e; state = refl; value = refl; after = refl; octets = refl })
 
-    pub ended : {number detail count : ℕ} {receiver b′ : List ℕ} → flagAt v 1 ≡ false → count ≡ word v 0
+    pub ended : {number detail count : ℕ} {receiver b′ : List ℕ} → isCut (stateOf v) area ≡ false → count ≡ word v 0
         → Received (receivingOf w (take (count - 0) area) b) number detail receiver b′ → Ended (endOf v area w b) number (0 ∷ 0 ∷ []) detail receiver b′
     unfolding endOf
-    ended {number} {detail} {count} {receiver} {b′} more e h =
-        let r : Received (receivingOf w (take (word v 0) area) b) number detail receiver b′ = rw (← e, ← sub-zero count) h in
-        simp (none, more) (record { answer = r .answer; state = refl; value = r .value; after = r .after; octets = r .octets })
+    ended {number} {detail} {count} {receiver} {b′} cut e h =
+        let p = passed v (length area) none in
+        let same = kept-alike (stateOf v) (p .sound) area (p .roomy) cut in
+        let kept : Received (receivingOf w (take (word v 0) area) b) number detail receiver b′ = rw (← e, ← sub-zero count) h in
+        let r : Received (receivingOf w (heard (stateOf v) area) b) number detail receiver b′ =
+        subst (λ (t : Receiving). Received t number detail receiver b′) (alike-words w (take (word v 0) area) (heard (stateOf v) area) b (same .0) (same .1)) kept in
+        simp none (record { answer = r .answer; state = refl; value = r .value; after = r .after; octets = r .octets })
 
 -- an end in words, where they are a state's and a record's, is an end of `stream`
 pub record Same (e : Ending) (t : Turn) : Type 0 where

@@ -27,7 +27,7 @@ pub extern "C" fn seatport_end(
         return refusal;
     }
     *stream = [0, 0];
-    if words[1] == 1 {
+    if stream::is_cut(stream_words::state_of(words), area) {
         return stream_words::too_long(*receiver, buffer.len());
     }
     let count = words::wide(words[0]);

@@ -7,6 +7,7 @@ use Prim.Native.Nat.{ℕ, _+_}
 use lib.Dec.{ltb}
 use lib.ListN.{length, take}
 use Rattle.octets.specs.Laid.{laid}
+use Rattle.heads.specs.Head.{headOf, isKnown}
 use Rattle.receiver_answers.specs.Answers.{Said, says, said}
 use Rattle.receiver_record.specs.declared.Record.{Record}
 use Rattle.receiver_record.specs.Records.{inRange}
@@ -20,23 +21,23 @@ use Rattle.stream.specs.declared.Reply.{Reply}
 use Rattle.stream.specs.declared.Reply.the-variants.{Waits, Refused, Answered}
 use Rattle.stream.specs.declared.Streamed.{Streamed}
 
--- "a lent area of 1,530 octets"; "beyond 1,530 it counts no octet"
+-- "a lent area of 1,530 octets"; "beyond 1,530 it counts no octet"; since (vi) a continuation "may .. have 1,531 octets, the new area and limit"
 abbrev pub most : ℕ
-most = 1530
+most = 1531
 
--- "18, area under 1,530, then 19, a state .."
+-- "18, area under" the limit, "then 19, a state .."
 abbrev pub number : Refusal → ℕ
 number R.Area = 18
 number R.State = 19
 
--- ".. counting over 1,530 or remembering more below that"
+-- ".. counting over" it "or remembering more below that"
 abbrev pub unsound : State → Bool
 unsound s = ltb most (s .count) || (s .more && ltb (s .count) most)
 
 abbrev pub empty : State
 empty = record { count = 0; more = false }
 
--- an octet is counted, and laid behind those before it; beyond 1,530 it is only remembered that there were more
+-- an octet is counted, and laid behind those before it; beyond 1,531 it is only remembered that there were more
 abbrev pub counted : State → State
 counted s = cond (ltb (s .count) most) (record { count = s .count + 1; more = s .more }) (record { count = s .count; more = true })
 
@@ -48,7 +49,11 @@ stored octet s area = cond (ltb (s .count) most) (laid area (s .count) (octet �
 abbrev pub heard : State → List ℕ → List ℕ
 heard s area = cond (s .more) (take (s .count) area ++ 0 ∷ []) (take (s .count) area)
 
--- what the first receiver answers where there were more: 10, 11, then 13
+-- where there were more, those kept decide the head: they refuse it, or would begin an mFrame, which is then too long
+abbrev pub isCut : State → List ℕ → Bool
+isCut s area = s .more && isKnown (headOf (take most area))
+
+-- what the first receiver answers to that: 10, 11, then 13
 abbrev pub longOf : Record → ℕ → Said
 longOf r room = cond (ltb room 1518) (says 10 0) (cond (inRange r) (says 13 0) (says 11 0))
 

@@ -2,6 +2,7 @@
 // first receiver answers to all of them.
 mod ending;
 
+pub use ending::is_cut;
 use receiver_answers::Answer;
 use receiver_record::Record;
 ghost use mathlib.Core.Path.{_≡_};
@@ -10,7 +11,7 @@ ghost use lib.ListN.{length};
 ghost use Rattle.stream.specs.Stream.{most, number, unsound, counted, stored, streamOf, Streams};
 
 // The most octets that are kept of an mFrame, and the least area.
-pub const MOST: u32 = 1530;
+pub const MOST: u32 = 1531;
 
 // What the receiver is given.
 pub enum Given {

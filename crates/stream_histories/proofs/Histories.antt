@@ -41,7 +41,7 @@ go (End ∷ gs) m area p r b k =
       room = ap (λ (t : Turn). length (leftBy gs t .area)) e ∙ h .room;
     }
 
--- from an empty state, with an area of 1,530 octets or more, any record and any buffer
+-- from an empty state, with an area of 1,531 octets or more, any record and any buffer
 pub histories : (gs : List Given) (area : List ℕ) (r : Record) (b : List ℕ) → most ≤ length area → Holds gs [] (begun area r b)
 histories gs area r b roomy = go gs [] area waits r b (record { roomy = roomy; kept = refl })
 

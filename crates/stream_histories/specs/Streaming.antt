@@ -59,7 +59,7 @@ atEnds (Octet x ∷ gs) said = waits ∷ atEnds gs said
 atEnds (End ∷ gs) [] = []
 atEnds (End ∷ gs) (a ∷ said) = answers a ∷ atEnds gs said
 
--- the state after the octets m since the last end: how many of the first 1,530 there are, and whether there were more
+-- the state after the octets m since the last end: how many of the first 1,531 there are, and whether there were more
 abbrev pub stateAfter : List ℕ → State
 stateAfter m = record { count = length (take most m); more = ltb most (length m) }
 
@@ -71,7 +71,7 @@ pub record Holds (gs : List Given) (m : List ℕ) (t : Turn) : Type 0 where
   pub answered : replies gs t ≡ atEnds gs (answersTo (t .after) (t .buffer) (runs m gs))
   pub after : leftBy gs t .after ≡ recordAfter (t .after) (t .buffer) (runs m gs)
   pub buffer : leftBy gs t .buffer ≡ bufferAfter (t .after) (t .buffer) (runs m gs)
-  -- "beyond 1,530 it counts no octet but remembers that there were more": the state, and the octets of the area that it counts
+  -- "beyond" the limit "it counts no octet but remembers that there were more": the state, and the octets of the area that it counts
   pub state : leftBy gs t .state ≡ stateAfter (since m gs)
   pub kept : take (length (take most (since m gs))) (leftBy gs t .area) ≡ take most (since m gs)
   -- the area stays as long as it was

@@ -24,7 +24,7 @@ stateOf w = record { count = word w 0; more = flagAt w 1 }
 unfoldable pub refusalOf : List ℕ → ℕ → ℕ
 refusalOf w room = cond (ltb room most) 18 (cond (ltb 1 (word w 1) || unsound (stateOf w)) 19 0)
 
--- the words after an octet: one more is counted; where 1,530 are, that there were more is remembered
+-- the words after an octet: one more is counted; where 1,531 are, that there were more is remembered
 abbrev pub countedWords : List ℕ → List ℕ
 countedWords w = cond (ltb (word w 0) most) (set w 0 (word w 0 + 1)) (set w 1 1)
 
@@ -46,6 +46,6 @@ pub record Octet (p : Keeping) (number : ℕ) (stream area : List ℕ) : Type 0 
   pub state : stream ≡ p .stream
   pub octets : area ≡ p .area
 
--- what the first receiver answers to more octets than an mFrame can have: 10, then 11, which words that are no record's get too, then 13
+-- what the first receiver answers to a run that is cut, more octets than an mFrame can have: 10, then 11, which words that are no record's get too, then 13
 unfoldable pub tooLong : List ℕ → ℕ → ℕ
 tooLong w room = cond (ltb room 1518) 10 (cond (receiverFits w && inRange (receiverOf w)) 13 11)

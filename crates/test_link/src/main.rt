@@ -1,5 +1,5 @@
-// Plays the pseudo-random link of the reference: a sender and a receiver, with cuts, holds, changes of extra and lost mFrames, each entry
-// from a seed. tests/reference/README.md has the rule; what is delivered is compared with the reference's own link.
+// Plays the pseudo-random link of the reference: a sender and a receiver, with cuts, holds, changes of extra, lost mFrames and lost octets of
+// the preamble, each entry from a seed. tests/reference/README.md has the rule; what is delivered is compared with the reference's own link.
 mod chance;
 mod tally;
 
@@ -158,7 +158,27 @@ fn is_lost(x: u32, preemptable: bool, run: u32) -> bool {
     chance::one_of(x, 3) == 0
 }
 
-// The fate of an mFrame.
+// How many octets 55 lead an mFrame, up to a number.
+fn leading(mframe: &[u8], most: u32) -> u32 {
+    let mut k: u32 = 0;
+    while k < most {
+        if mframe.len() <= k as usize {
+            return k;
+        }
+        if mframe[k as usize] != 0x55 {
+            return k;
+        }
+        k += 1;
+    }
+    most
+}
+
+// An mFrame without so many of its leading octets 55, or as many as it has.
+fn shortened(mframe: &[u8], dropped: u32) -> &[u8] {
+    read::behind(mframe, leading(mframe, dropped) as usize)
+}
+
+// The fate of an mFrame: lost, or how many of its leading octets 55 the link drops.
 fn fate(l: Link, out: &[u8], buffer: &mut [u8; 1518]) -> Link {
     let x = chance::step(l.x);
     let t = l.tally;
@@ -172,7 +192,9 @@ fn fate(l: Link, out: &[u8], buffer: &mut [u8; 1518]) -> Link {
     if lost {
         return next;
     }
-    arrive(next, read::front(out, l.wrote), buffer)
+    let y = chance::step(x);
+    next.x = y;
+    arrive(next, shortened(read::front(out, l.wrote), chance::one_of(y, 9)), buffer)
 }
 
 fn say_end(l: Link) -> bool {

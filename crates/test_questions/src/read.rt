@@ -94,6 +94,14 @@ pub fn front(space: &[u8], n: usize) -> &[u8] {
     &space[0..n]
 }
 
+// The octets behind the first n, or none where there are fewer.
+pub fn behind(space: &[u8], n: usize) -> &[u8] {
+    if space.len() < n {
+        return &space[0..0];
+    }
+    &space[n..]
+}
+
 // The same to write to.
 pub fn front_mut(space: &mut [u8], n: usize) -> &mut [u8] {
     if space.len() < n {

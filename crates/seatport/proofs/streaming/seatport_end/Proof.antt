@@ -1,13 +1,14 @@
 -- `seatport::streaming::seatport_end` meets its contract.
 -- Assumes nothing.
-use mathlib.Core.Path.{sym, _∙_}
+use mathlib.Core.Path.{sym, ap, _∙_}
 use native.Mathlib.Omega.{arith}
-use borrow.Author.Tests.{eq-eqb, ne-eqb}
 use lib.ListN.{length}
+use Rattle.stream.specs.declared.State.{State}
+use Rattle.stream.specs.Stream.{isCut}
 use Rattle.stream.proofs.Heard.{at-most}
 use Rattle.stream_words.specs.State.{stateOf}
 use Rattle.stream_words.proofs.Laws.{passed}
-use Rattle.seatport.proofs.Streamed.{refused, ended-long, ended}
+use Rattle.seatport.proofs.Streamed.{refused-end, ended-long, ended}
 use borrow.Author.Needs.{needs}
 use Rattle.seatport.proofs.streaming.seatport_end.Statement.{statement}
 use Rattle.seatport.proofs.streaming.seatport_end.Tie as tie
@@ -18,20 +19,28 @@ refusal-requires c κs = search needs
 returns : tie.Need-returns
 returns c =
     let a = c .before .before .before .before .before .args in
-    refused (a .stream .now) (a .area .now) (a .receiver .now) (a .buffer .now) (c .if1 .taken) (c .before .refusal .ensures)
+    refused-end (a .stream .now) (a .area .now) (a .receiver .now) (a .buffer .now) (c .if1 .taken) (c .before .refusal .ensures)
 
-array-read-if2 : tie.Need-array-read-if2
-array-read-if2 c = search needs
+state-of-requires : tie.Need-state-of-requires
+state-of-requires c κs = search needs
+
+is-cut-requires : tie.Need-is-cut-requires
+is-cut-requires c κs =
+    let d = c .before .before in
+    let a = d .before .before .before .before .before .args in
+    passed (a .stream .now) (length (a .area .now)) (sym (d .before .refusal .ensures) ∙ d .if1 .left) .roomy
 
 too-long-requires : tie.Need-too-long-requires
 too-long-requires c κs = search needs
 
 returns-2 : tie.Need-returns-2
 returns-2 c =
-    let d = c .before .before .before .before in
+    let k = c .before .before .before in
+    let d = k .before .before .before in
     let a = d .before .before .before .before .before .args in
     let none = sym (d .before .refusal .ensures) ∙ d .if1 .left in
-    ended-long (a .stream .now) (a .area .now) (a .receiver .now) (a .buffer .now) none (eq-eqb _ _ (c .before .before .if2 .taken)) (c .too-long .ensures .1) (c .too-long .ensures .0)
+    let cut = ap (λ (s : State). isCut s (a .area .now)) (sym (k .before .state-of .ensures)) ∙ sym (k .is-cut .ensures) ∙ c .before .before .if2 .taken in
+    ended-long (a .stream .now) (a .area .now) (a .receiver .now) (a .buffer .now) none cut (c .too-long .ensures .1) (c .too-long .ensures .0)
 
 array-read-wide : tie.Need-array-read-wide
 array-read-wide c = search needs
@@ -47,7 +56,7 @@ part-seatport-receive-start c = search needs
 
 part-seatport-receive-end : tie.Need-part-seatport-receive-end
 part-seatport-receive-end c =
-    let d = c .before .before .before .before in
+    let d = c .before .before .before .before .before .before in
     let a = d .before .before .before .before .before .args in
     let none = sym (d .before .refusal .ensures) ∙ d .if1 .left in
     let p = passed (a .stream .now) (length (a .area .now)) none in
@@ -64,10 +73,12 @@ same-length c = search needs
 returns-3 : tie.Need-returns-3
 returns-3 c =
     let e = c .before .before .before .before .before .before .before in
-    let d = e .before .before .before in
+    let k = e .before .before in
+    let d = k .before .before .before in
     let a = d .before .before .before .before .before .args in
     let none = sym (d .before .refusal .ensures) ∙ d .if1 .left in
-    ended (a .stream .now) (a .area .now) (a .receiver .now) (a .buffer .now) none (ne-eqb _ _ (e .before .if2 .left)) (e .wide .ensures .0) (c .before .before .seatport-receive .ensures)
+    let cut = ap (λ (s : State). isCut s (a .area .now)) (sym (k .before .state-of .ensures)) ∙ sym (k .is-cut .ensures) ∙ e .before .if2 .left in
+    ended (a .stream .now) (a .area .now) (a .receiver .now) (a .buffer .now) none cut (e .wide .ensures .0) (c .before .before .seatport-receive .ensures)
 
 pub seatport-end-spec : {M : Type 1} → statement M
 seatport-end-spec =
@@ -75,7 +86,8 @@ seatport-end-spec =
     (tie.spec
     refusal-requires
     returns
-    array-read-if2
+    state-of-requires
+    is-cut-requires
     too-long-requires
     returns-2
     array-read-wide
