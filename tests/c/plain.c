@@ -1,4 +1,4 @@
-/* Document 01, and document 02, (i), (iv) and (v), in plain C; plain.h says what for. */
+/* Document 01, and document 02, (i) and (iv) to (vi), in plain C; plain.h says what for. */
 #include "plain.h"
 
 #include <string.h>
@@ -8,9 +8,11 @@ enum {
 	CHECK = 4,
 	BODY_MIN = 60,
 	BODY_MAX = 1518,
-	MFRAME_MIN = HEADER + BODY_MIN + CHECK,
-	MFRAME_MAX = HEADER + BODY_MAX + CHECK,
+	SENT_MIN = HEADER + BODY_MIN + CHECK,
+	SENT_MAX = HEADER + BODY_MAX + CHECK,
 	PREAMBLE = 0x55,
+	PREAMBLE_MAX = 7,
+	RECEIVED_MAX = PREAMBLE_MAX + 2 + BODY_MAX + CHECK,
 	EXPRESS = 0xd5,
 	VERIFY = 0x07,
 	RESPOND = 0x19
@@ -107,7 +109,7 @@ static void put_continuation_header(uint8_t *out, uint8_t delimiter, uint8_t fra
 
 int plain_express(const uint8_t *body, size_t length, uint8_t *out, size_t room, struct plain_written *written)
 {
-	if (room < MFRAME_MAX)
+	if (room < SENT_MAX)
 		return 30;
 	if (!is_body(length))
 		return 32;
@@ -121,12 +123,12 @@ int plain_express(const uint8_t *body, size_t length, uint8_t *out, size_t room,
 
 static int order(uint8_t delimiter, uint8_t *out, size_t room, struct plain_written *written)
 {
-	if (room < MFRAME_MAX)
+	if (room < SENT_MAX)
 		return 30;
 	put_header(out, delimiter);
 	memset(out + HEADER, 0, BODY_MIN);
 	put_word(out + HEADER + BODY_MIN, ~crc_over(all_ones, out + HEADER, BODY_MIN) ^ mcrc_inverts);
-	written->length = MFRAME_MIN;
+	written->length = SENT_MIN;
 	written->done = 1;
 	return 0;
 }
@@ -154,7 +156,7 @@ static bool sender_in_range(const struct plain_sender *s)
 int plain_preemptable(struct plain_sender *s, const uint8_t *body, size_t length, bool asked, uint64_t t, uint8_t *out,
 		      size_t room, struct plain_written *written)
 {
-	if (room < MFRAME_MAX)
+	if (room < SENT_MAX)
 		return 30;
 	if (!sender_in_range(s))
 		return 31;
@@ -225,6 +227,15 @@ static enum kind kind_of(uint8_t delimiter, uint32_t *frame)
 			return KIND_CONTINUATION;
 	}
 	return KIND_UNKNOWN;
+}
+
+/* 4 where the octet is no fragment code. */
+static uint32_t fragment_of(uint8_t octet)
+{
+	uint32_t fragment = 0;
+	while (fragment < 4 && octet != fragment_codes[fragment])
+		fragment++;
+	return fragment;
 }
 
 static uint32_t ones(uint32_t x)
@@ -330,6 +341,55 @@ static int receive_continuation(struct plain_receiver *r, uint32_t frame, uint32
 	return 2;
 }
 
+/* How many octets 55 lead the mFrame; of too many, one too many. */
+static size_t preamble_of(const uint8_t *mframe, size_t n)
+{
+	size_t most = n <= PREAMBLE_MAX ? n : PREAMBLE_MAX + 1, leading = 0;
+	while (leading < most && mframe[leading] == PREAMBLE)
+		leading++;
+	return leading;
+}
+
+/* Whether a header may have so many octets behind it: a body, or a part of one, and its check octets. */
+static bool is_framed(size_t n)
+{
+	return n >= BODY_MIN + CHECK && n <= BODY_MAX + CHECK;
+}
+
+/* What an mFrame says before its data. */
+struct head {
+	enum kind kind;
+	uint8_t delimiter;
+	uint32_t frame, fragment;
+	size_t length; /* of the header */
+};
+
+/* 0, or the number of the refusal. The head of an mFrame that is too long is read as well: what it is refused for comes first. */
+static int read_head(const uint8_t *mframe, size_t n, struct head *head)
+{
+	size_t at = preamble_of(mframe, n);
+	if (at > PREAMBLE_MAX)
+		return 14;
+	if (at == n)
+		return 12;
+	head->delimiter = mframe[at++];
+	head->kind = kind_of(head->delimiter, &head->frame);
+	if (head->kind == KIND_UNKNOWN)
+		return 15;
+	head->fragment = 0;
+	if (head->kind == KIND_CONTINUATION) {
+		if (at == n)
+			return 12;
+		head->fragment = fragment_of(mframe[at++]);
+		if (head->fragment > 3)
+			return 17;
+	}
+	head->length = at;
+	if (is_framed(n - at))
+		return 0;
+	return n - at < BODY_MIN + CHECK ? 12 : 13;
+}
+
 int plain_receive(struct plain_receiver *r, const uint8_t *mframe, size_t n, uint8_t *buffer, size_t room,
 		  uint32_t *detail)
 {
@@ -338,28 +398,18 @@ int plain_receive(struct plain_receiver *r, const uint8_t *mframe, size_t n, uin
 		return 10;
 	if (!receiver_in_range(r))
 		return 11;
-	if (n < MFRAME_MIN)
-		return 12;
-	if (n > MFRAME_MAX)
-		return 13;
-	for (size_t i = 0; i < 6; i++)
-		if (mframe[i] != PREAMBLE)
-			return 14;
+	struct head head;
+	int refusal = read_head(mframe, n, &head);
+	if (refusal == 15)
+		*detail = distance(head.delimiter);
+	if (refusal == 15 || refusal == 17)
+		return delimiter_error(r, refusal);
+	if (refusal != 0)
+		return refusal;
 
-	bool late = mframe[6] == PREAMBLE;
-	uint8_t delimiter = mframe[late ? 7 : 6];
-	uint32_t frame;
-	enum kind kind = kind_of(delimiter, &frame);
-	if (kind == KIND_UNKNOWN) {
-		*detail = distance(delimiter);
-		return delimiter_error(r, 15);
-	}
-	if (late == (kind == KIND_CONTINUATION))
-		return delimiter_error(r, 16);
-
-	const uint8_t *data = mframe + HEADER;
-	uint32_t length = (uint32_t)(n - HEADER - CHECK);
-	switch (kind) {
+	const uint8_t *data = mframe + head.length;
+	uint32_t length = (uint32_t)(n - head.length - CHECK);
+	switch (head.kind) {
 	case KIND_EXPRESS:
 		if (get_word(data + length) != ~crc_over(all_ones, data, length))
 			return 20;
@@ -369,30 +419,25 @@ int plain_receive(struct plain_receiver *r, const uint8_t *mframe, size_t n, uin
 	case KIND_RESPOND:
 		if (get_word(data + length) != (~crc_over(all_ones, data, length) ^ mcrc_inverts))
 			return 21;
-		return kind == KIND_VERIFY ? 3 : 4;
+		return head.kind == KIND_VERIFY ? 3 : 4;
 	case KIND_START:
-		return receive_start(r, frame, data, length, buffer, detail);
+		return receive_start(r, head.frame, data, length, buffer, detail);
 	default:
-		break;
+		return receive_continuation(r, head.frame, head.fragment, data, length, buffer, detail);
 	}
-	for (uint32_t fragment = 0; fragment < 4; fragment++)
-		if (mframe[7] == fragment_codes[fragment])
-			return receive_continuation(r, frame, fragment, data, length, buffer, detail);
-	return delimiter_error(r, 17);
 }
 
 size_t plain_express_body(const uint8_t *mframe, size_t n, size_t *start)
 {
 	*start = 0;
-	if (n < MFRAME_MIN || n > MFRAME_MAX)
+	size_t header = preamble_of(mframe, n) + 1;
+	if (header > PREAMBLE_MAX + 1 || header > n || mframe[header - 1] != EXPRESS || !is_framed(n - header))
 		return 0;
-	for (size_t i = 0; i < 7; i++)
-		if (mframe[i] != PREAMBLE)
-			return 0;
-	size_t length = n - HEADER - CHECK;
-	if (mframe[7] != EXPRESS || get_word(mframe + HEADER + length) != ~crc_over(all_ones, mframe + HEADER, length))
+	const uint8_t *data = mframe + header;
+	size_t length = n - header - CHECK;
+	if (get_word(data + length) != ~crc_over(all_ones, data, length))
 		return 0;
-	*start = HEADER;
+	*start = header;
 	return length;
 }
 
@@ -400,16 +445,16 @@ size_t plain_express_body(const uint8_t *mframe, size_t n, size_t *start)
 
 static bool stream_in_range(const struct plain_stream *s)
 {
-	return s->count < MFRAME_MAX ? s->more == 0 : s->count == MFRAME_MAX && s->more <= 1;
+	return s->count < RECEIVED_MAX ? s->more == 0 : s->count == RECEIVED_MAX && s->more <= 1;
 }
 
 int plain_octet(struct plain_stream *s, uint8_t *area, size_t size, uint8_t octet)
 {
-	if (size < MFRAME_MAX)
+	if (size < RECEIVED_MAX)
 		return 18;
 	if (!stream_in_range(s))
 		return 19;
-	if (s->count < MFRAME_MAX)
+	if (s->count < RECEIVED_MAX)
 		area[s->count++] = octet;
 	else
 		s->more = 1;
@@ -420,11 +465,11 @@ int plain_end(struct plain_stream *s, const uint8_t *area, size_t size, struct p
 	      size_t room, uint32_t *detail)
 {
 	*detail = 0;
-	if (size < MFRAME_MAX)
+	if (size < RECEIVED_MAX)
 		return 18;
 	if (!stream_in_range(s))
 		return 19;
-	/* However many there were more, one is enough to be refused for, before any octet is looked at. */
+	/* However many there were more, one is enough to be too long behind any header, and no octet behind a header is looked at. */
 	uint32_t n = s->count + s->more;
 	s->count = s->more = 0;
 	return plain_receive(r, area, n, buffer, room, detail);
