@@ -2,9 +2,9 @@
  *
  * Each function is one call of document 01, "The seat port and its rules", or of document 02: on the hall's schedule of
  * its (i), receiving as octets come of its (iv). Where a frame is cut is told by document 02, (ii), how long link
- * verification waits by its (v). A function works on memory that the caller lends for the length of the call and keeps
- * nothing: no allocation, no statics, no working memory but some stack. Several ports, or calls from several threads, need
- * nothing but records, streams and lent memory of their own.
+ * verification waits by its (v), what may stand before a delimiter by its (vi). A function works on memory that the caller
+ * lends for the length of the call and keeps nothing: no allocation, no statics, no working memory but some stack. Several
+ * ports, or calls from several threads, need nothing but records, streams and lent memory of their own.
  *
  * +----------------------------------------------------------------------------------------------------------------------+
  * | Fragments, V and R are understood only by ports built from this code. Their check octets, the mCRC, are those of     |
@@ -55,8 +55,15 @@
  *   3.0  the verification wait can be set. What was written for 2 has to change: seatport_step takes the wait behind the
  *        event; SEATPORT_STEPPED_REFUSED is now SEATPORT_STEPPED_RECORD_BAD, and 41 is new; struct seatport_link has a fifth
  *        word, the wait, and begins as SEATPORT_LINK_FRESH. One that is all zero was fresh in 2 and is refused now;
- *        no compiler notices. With SEATPORT_WAIT_USUAL at each enable, verification does what it did in 2. */
-#define SEATPORT_VERSION_MAJOR 3
+ *        no compiler notices. With SEATPORT_WAIT_USUAL at each enable, verification does what it did in 2.
+ *   4.0  shortened preambles are received. What was written for 3 has to change: an mFrame that is received has 65 to 1,531
+ *        octets (72 to 1,530 in 3), so that memory whose size was written as a number has to grow. An area of 1,530 octets
+ *        is refused with 18 at every call: a program compiled with the header of 3 and linked with an archive of 4 receives
+ *        nothing as octets come. 16 is given no more. 14 is now said of too many 55s, in 3 it was said of too few. 12 and 13
+ *        count from the header's end and come behind 14, 15 and 17, so that noise, however short or long, is mostly 15. An
+ *        express body starts where seatport_express_body says, no longer always at place 8. Sending is as in 3, and what 3
+ *        did not refuse is answered as in 3: where no 55 is lost, ports of both versions understand each other. */
+#define SEATPORT_VERSION_MAJOR 4
 #define SEATPORT_VERSION_MINOR 0
 
 /* Fresh records and an empty stream, in C and in C++. The link's last word is its wait. */
@@ -69,16 +76,17 @@
 extern "C" {
 #endif
 
-/* Sizes in octets. An mFrame counts from its first preamble octet to its last check octet, a body is a frame without its
- * check octets. */
+/* Sizes in octets. An mFrame counts from its first octet, a 55 where any is left of its preamble, to its last check octet; a
+ * body is a frame without its check octets. */
 enum seatport_size {
 	SEATPORT_SIZE_BODY_MIN = 60,
 	SEATPORT_SIZE_BODY_MAX = 1518,
-	SEATPORT_SIZE_MFRAME_MIN = 72,
-	SEATPORT_SIZE_MFRAME_MAX = 1530,
-	SEATPORT_SIZE_OUTPUT = 1530,   /* the least output buffer of a sending call */
-	SEATPORT_SIZE_ASSEMBLY = 1518, /* the least assembly buffer of seatport_receive and seatport_end */
-	SEATPORT_SIZE_AREA = 1530      /* the least area of seatport_octet and seatport_end */
+	SEATPORT_SIZE_MFRAME_MIN = 65,   /* received: a delimiter and 64. The shortest that is sent has 72 */
+	SEATPORT_SIZE_MFRAME_MAX = 1531, /* received: seven 55s, delimiter, fragment code and 1,522. The longest that is sent has
+					  * 1,530 */
+	SEATPORT_SIZE_OUTPUT = 1530,     /* the least output buffer of a sending call */
+	SEATPORT_SIZE_ASSEMBLY = 1518,   /* the least assembly buffer of seatport_receive and seatport_end */
+	SEATPORT_SIZE_AREA = 1531        /* the least area of seatport_octet and seatport_end */
 };
 
 /* ---- Sending -------------------------------------------------------------------------------------------------------- */
@@ -137,29 +145,37 @@ uint32_t seatport_respond(uint8_t *output, uint64_t room, struct seatport_writte
 
 /* ---- Receiving ------------------------------------------------------------------------------------------------------ */
 
-/* What seatport_receive returns, and seatport_end, and the detail; the detail is 0 where no line says otherwise. */
+/* The header of an mFrame: from no to seven octets 55, then the delimiter, which is the first octet that is not 55, and behind
+ * a continuation's delimiter the fragment code. A port sends it with eight octets; a PHY may swallow any of the 55s. Behind
+ * the header come 64 to 1,522 octets, of which the last four are the check octets. */
+
+/* What seatport_receive returns, and seatport_end, and the detail; the detail is 0 where no line says otherwise. Refusals are
+ * tested for in this order: 18, 19, 10, 11, 14, 15, 17, 12, 13. The number 16 is given no more: it was said of a delimiter
+ * out of place, and a delimiter may now stand behind any number of 55s up to seven. Nothing else gets that number, so that
+ * old listings, and code written for it, never mean something new. */
 enum seatport_answer {
-	SEATPORT_ANSWER_EXPRESS = 0,              /* express delivered; detail: body length. seatport_express_body says where it is */
-	SEATPORT_ANSWER_PREEMPTABLE = 1,          /* preemptable delivered; detail: body length. The body is at the buffer's front */
-	SEATPORT_ANSWER_FRAGMENT = 2,             /* fragment kept; detail: octets kept so far */
-	SEATPORT_ANSWER_VERIFY_HEARD = 3,         /* a V: hand the answer to seatport_step */
-	SEATPORT_ANSWER_RESPOND_HEARD = 4,        /* an R: hand the answer to seatport_step */
-	SEATPORT_ANSWER_BUFFER_SHORT = 10,        /* refused: buffer under SEATPORT_SIZE_ASSEMBLY octets */
-	SEATPORT_ANSWER_RECORD_BAD = 11,          /* refused: receiving record outside its ranges */
-	SEATPORT_ANSWER_TOO_SHORT = 12,           /* refused: under SEATPORT_SIZE_MFRAME_MIN octets */
-	SEATPORT_ANSWER_TOO_LONG = 13,            /* refused: over SEATPORT_SIZE_MFRAME_MAX octets */
-	SEATPORT_ANSWER_PREAMBLE_BAD = 14,        /* refused: one of places 0 to 5 is not 55 */
-	SEATPORT_ANSWER_DELIMITER_BAD = 15,       /* refused; detail: the least number of bits to any of the eleven delimiters */
-	SEATPORT_ANSWER_DELIMITER_MISPLACED = 16, /* refused: delimiter out of place */
-	SEATPORT_ANSWER_FRAGMENT_CODE_BAD = 17,   /* refused: unknown fragment code */
-	SEATPORT_ANSWER_AREA_SHORT = 18,          /* refused, never by seatport_receive: area under SEATPORT_SIZE_AREA octets */
-	SEATPORT_ANSWER_STREAM_BAD = 19,          /* refused, never by seatport_receive: stream outside its ranges */
-	SEATPORT_ANSWER_EXPRESS_DAMAGED = 20,     /* dropped: express, FCS wrong */
-	SEATPORT_ANSWER_ORDER_DAMAGED = 21,       /* dropped: V or R, mCRC wrong */
-	SEATPORT_ANSWER_NO_ASSEMBLY = 22,         /* dropped: continuation, none in assembly */
-	SEATPORT_ANSWER_COUNT_OTHER = 23,         /* dropped, assembly abandoned: frame or fragment count not the expected */
-	SEATPORT_ANSWER_OVERFLOW = 24,            /* dropped, assembly abandoned: octets kept plus this data over 1,518 */
-	SEATPORT_ANSWER_DAMAGED = 25              /* dropped, assembly abandoned: last four octets neither FCS nor mCRC */
+	SEATPORT_ANSWER_EXPRESS = 0,            /* express delivered; detail: body length. seatport_express_body says where it is */
+	SEATPORT_ANSWER_PREEMPTABLE = 1,        /* preemptable delivered; detail: body length. The body is at the buffer's front */
+	SEATPORT_ANSWER_FRAGMENT = 2,           /* fragment kept; detail: octets kept so far */
+	SEATPORT_ANSWER_VERIFY_HEARD = 3,       /* a V: hand the answer to seatport_step */
+	SEATPORT_ANSWER_RESPOND_HEARD = 4,      /* an R: hand the answer to seatport_step */
+	SEATPORT_ANSWER_BUFFER_SHORT = 10,      /* refused: buffer under SEATPORT_SIZE_ASSEMBLY octets */
+	SEATPORT_ANSWER_RECORD_BAD = 11,        /* refused: receiving record outside its ranges */
+	SEATPORT_ANSWER_TOO_SHORT = 12,         /* refused: it ends before its delimiter or its fragment code (with no octet at
+						 * all, too), or has under 64 octets behind the header */
+	SEATPORT_ANSWER_TOO_LONG = 13,          /* refused: over 1,522 octets behind the header */
+	SEATPORT_ANSWER_PREAMBLE_BAD = 14,      /* refused: eight or more leading 55s, whatever follows */
+	SEATPORT_ANSWER_DELIMITER_BAD = 15,     /* refused: the first octet that is not 55 is no delimiter; detail: the least
+						 * number of bits by which it differs from any of the eleven */
+	SEATPORT_ANSWER_FRAGMENT_CODE_BAD = 17, /* refused: unknown fragment code */
+	SEATPORT_ANSWER_AREA_SHORT = 18,        /* refused, never by seatport_receive: area under SEATPORT_SIZE_AREA octets */
+	SEATPORT_ANSWER_STREAM_BAD = 19,        /* refused, never by seatport_receive: stream outside its ranges */
+	SEATPORT_ANSWER_EXPRESS_DAMAGED = 20,   /* dropped: express, FCS wrong */
+	SEATPORT_ANSWER_ORDER_DAMAGED = 21,     /* dropped: V or R, mCRC wrong */
+	SEATPORT_ANSWER_NO_ASSEMBLY = 22,       /* dropped: continuation, none in assembly */
+	SEATPORT_ANSWER_COUNT_OTHER = 23,       /* dropped, assembly abandoned: frame or fragment count not the expected */
+	SEATPORT_ANSWER_OVERFLOW = 24,          /* dropped, assembly abandoned: octets kept plus this data over 1,518 */
+	SEATPORT_ANSWER_DAMAGED = 25            /* dropped, assembly abandoned: last four octets neither FCS nor mCRC */
 };
 
 /* What the receiving side keeps between calls, beside the assembly buffer. The counters go on from 4,294,967,295 to 0. */
@@ -170,14 +186,15 @@ struct seatport_receiver {
 	uint32_t kept;             /* its octets in the buffer, 60 to 1,518 */
 	uint32_t crc;              /* running CRC, the register before the complement */
 	uint32_t assembly_errors;  /* assemblies abandoned, and damaged starts */
-	uint32_t delimiter_errors; /* answers 15, 16, 17 and 22 */
+	uint32_t delimiter_errors; /* answers 15, 17 and 22 */
 	uint32_t assembled;        /* frames delivered that took two mFrames or more */
 	uint32_t fragments;        /* continuations kept or completing */
 };
 
-/* One mFrame as it came, from its first preamble octet to its last check octet. Keep the buffer as it is left until the
- * next call; once a body is delivered from it, its octets are yours. Octets past those kept are never written. Returns a
- * number of enum seatport_answer. */
+/* One mFrame as it came, from its first octet, be it a 55 or the delimiter, to its last check octet. Memory that is to hold
+ * any mFrame, for DMA, say, has SEATPORT_SIZE_MFRAME_MAX octets. Keep the buffer as it is left until the next call; once a
+ * body is delivered from it, its octets are yours. Octets past those kept are never written. Returns a number of enum
+ * seatport_answer. */
 uint32_t seatport_receive(struct seatport_receiver *receiver, const uint8_t *mframe, uint64_t length, uint8_t *buffer,
 			  uint64_t room, uint32_t *detail);
 
@@ -187,7 +204,8 @@ struct seatport_part {
 	uint32_t length;
 };
 
-/* Where the body of an express mFrame is; both 0 if seatport_receive would not answer 0 with a fresh record. */
+/* Where the body of an express mFrame is: from the header's end, which is place 1 to 8, up to the check octets. Both are 0 if
+ * seatport_receive would not answer 0 with a fresh record. */
 void seatport_express_body(const uint8_t *mframe, uint64_t length, struct seatport_part *body);
 
 /* ---- Receiving as octets come --------------------------------------------------------------------------------------- */
@@ -212,28 +230,29 @@ void seatport_express_body(const uint8_t *mframe, uint64_t length, struct seatpo
 
 /* What came since the last end. A stream that is all zero is empty; so is one after its end. */
 struct seatport_stream {
-	uint32_t count; /* octets at the area's front, 0 to 1,530 */
-	uint32_t more;  /* there were more, which are neither kept nor counted; only where count is 1,530 */
+	uint32_t count; /* octets at the area's front, 0 to 1,531 */
+	uint32_t more;  /* there were more, which are neither kept nor counted; only where count is 1,531 */
 };
 
 /* What seatport_octet returns. Of the mFrame it says nothing before the end. */
 enum seatport_given {
 	SEATPORT_GIVEN_WAITS = 0,
-	/* refused, nothing changes: area under SEATPORT_SIZE_AREA octets (the size of a pointer, perhaps) */
+	/* refused, nothing changes: area under SEATPORT_SIZE_AREA octets (the size of a pointer, perhaps, or 1,530 of old) */
 	SEATPORT_GIVEN_AREA_SHORT = SEATPORT_ANSWER_AREA_SHORT,
 	/* refused, nothing changes: stream outside its ranges, and so at every call until it is set to SEATPORT_STREAM_EMPTY */
 	SEATPORT_GIVEN_STREAM_BAD = SEATPORT_ANSWER_STREAM_BAD
 };
 
-/* The next octet. It is written to the area behind those that came since the last end, and counted. Where 1,530 are counted
+/* The next octet. It is written to the area behind those that came since the last end, and counted. Where 1,531 are counted
  * already it is written nowhere; the stream only remembers that there were more. An octet that is refused is lost. One call
  * takes a constant time, whatever has come. Returns 0, 18 or 19. */
 uint32_t seatport_octet(struct seatport_stream *stream, uint8_t *area, uint64_t size, uint8_t octet);
 
 /* The end of an mFrame. 18 and 19 are tested before all others and change nothing but *detail, which is 0. Otherwise
  * answer, detail, record and assembly buffer are those of seatport_receive on all octets since the last end, however many
- * they were (none: 12, more: 13); the stream is then empty, also after 10 and 11, and the area is as it was. So an express
- * body that is delivered lies in the area: give the stream no octet before you are done with it.
+ * they were (none: 12; more than the area keeps: 13, unless the header is refused with 14, 15 or 17); the stream is then
+ * empty, also after 10 and 11, and the area is as it was. So an express body that is delivered lies in the area: give the
+ * stream no octet before you are done with it.
  *     count = stream.count;
  *     if (seatport_end(&stream, area, sizeof area, &receiver, buffer, sizeof buffer, &detail) == SEATPORT_ANSWER_EXPRESS)
  *             seatport_express_body(area, count, &body);

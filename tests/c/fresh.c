@@ -1,10 +1,11 @@
 /* The header alone, as C99 and as C++98: it compiles without a warning, its functions link under their names, its version is
- * a number for the preprocessor, and records and entries written as it says are taken by each call. A link that is all zero
- * is refused at every event, and stays so. */
+ * a number for the preprocessor, and records and entries written as it says are taken by each call. What was written for an
+ * older version is refused as it says: a link that is all zero at every event, which leave it so, and an area of 1,530
+ * octets. */
 #include "seatport.h"
 
-#if 100 * SEATPORT_VERSION_MAJOR + SEATPORT_VERSION_MINOR < 300
-#error "the wait of link verification came with version 3.0"
+#if 100 * SEATPORT_VERSION_MAJOR + SEATPORT_VERSION_MINOR < 400
+#error "shortened preambles came with version 4.0"
 #endif
 
 static int zero_link_refused(void)
@@ -15,6 +16,37 @@ static int zero_link_refused(void)
 		if (seatport_step(&link, event, SEATPORT_WAIT_USUAL, &ordered) != SEATPORT_STEPPED_RECORD_BAD || ordered != 0)
 			return 0;
 		if (link.phase != 0 || link.attempt != 0 || link.left != 0 || link.owed != 0 || link.wait != 0)
+			return 0;
+	}
+	return 1;
+}
+
+/* An area of the size that was enough before version 4. */
+static int old_area_refused(void)
+{
+	static uint8_t area[1530], buffer[SEATPORT_SIZE_ASSEMBLY];
+	struct seatport_stream stream = SEATPORT_STREAM_EMPTY;
+	struct seatport_receiver receiver = SEATPORT_RECEIVER_FRESH;
+	uint32_t detail = 7;
+	if (seatport_octet(&stream, area, sizeof area, 0x55) != SEATPORT_GIVEN_AREA_SHORT)
+		return 0;
+	if (seatport_end(&stream, area, sizeof area, &receiver, buffer, sizeof buffer, &detail) != SEATPORT_ANSWER_AREA_SHORT)
+		return 0;
+	return detail == 0 && stream.count == 0 && area[0] == 0;
+}
+
+/* An express mFrame of eight octets of header, whose 55s are lost one by one: its body starts a place sooner each time. */
+static int shortened_taken(const uint8_t *mframe, uint32_t length)
+{
+	static uint8_t buffer[SEATPORT_SIZE_ASSEMBLY];
+	struct seatport_receiver receiver = SEATPORT_RECEIVER_FRESH;
+	for (uint32_t lost = 0; lost < 8; lost++) {
+		struct seatport_part body;
+		uint32_t detail;
+		if (seatport_receive(&receiver, mframe + lost, length - lost, buffer, sizeof buffer, &detail) != SEATPORT_ANSWER_EXPRESS)
+			return 0;
+		seatport_express_body(mframe + lost, length - lost, &body);
+		if (body.start != 8 - lost || body.length != detail)
 			return 0;
 	}
 	return 1;
@@ -55,5 +87,9 @@ int main(void)
 		return 8;
 	if (link.wait != SEATPORT_WAIT_MAX || !zero_link_refused())
 		return 9;
+	if (!old_area_refused())
+		return 10;
+	if (!shortened_taken(output, written.length))
+		return 11;
 	return 0;
 }
