@@ -10,9 +10,9 @@
 #include <string.h>
 
 enum { SENDS = 20000, RECEIVES = 40000, STEPS = 20000, TRACES = 10000, LISTS = 10000, OCTETS = 10000, ENDS = 10000, RUNS = 10000 };
-enum { MEMORY = 2048, BEHIND = 64 };
+enum { MEMORY = 2048, BEHIND = 64, NUMBERS = 65 };
 
-static unsigned counts[65];
+static unsigned counts[NUMBERS];
 static const char *call;
 static unsigned turn;
 
@@ -32,26 +32,31 @@ static void answered(uint32_t port, int plain)
 {
 	if (port != (uint32_t)plain)
 		fail("another number is returned");
-	if (port < sizeof counts / sizeof counts[0])
+	if (port < NUMBERS)
 		counts[port]++;
 }
 
-/* Every number of the list was returned, and no other. */
-static void reached(const char *name, const unsigned *numbers, size_t n)
+/* How often each number was returned: every one of the list, and no other. */
+static void print_numbers(const unsigned *times, const unsigned *numbers, size_t n)
 {
 	unsigned known = 0, all = 0;
-	printf("%-12s", name);
 	for (size_t i = 0; i < n; i++) {
-		printf(" %u:%u", numbers[i], counts[numbers[i]]);
-		known += counts[numbers[i]];
-		if (counts[numbers[i]] == 0)
+		printf(" %u:%u", numbers[i], times[numbers[i]]);
+		known += times[numbers[i]];
+		if (times[numbers[i]] == 0)
 			fail("a number was never returned");
 	}
 	putchar('\n');
-	for (size_t i = 0; i < sizeof counts / sizeof counts[0]; i++)
-		all += counts[i];
+	for (size_t i = 0; i < NUMBERS; i++)
+		all += times[i];
 	if (known != all)
 		fail("a number that the call does not have");
+}
+
+static void reached(const char *name, const unsigned *numbers, size_t n)
+{
+	printf("%-12s", name);
+	print_numbers(counts, numbers, n);
 	memset(counts, 0, sizeof counts);
 }
 
@@ -243,8 +248,30 @@ static void send_all(void)
 
 /* Receiving */
 
+enum { PREAMBLE = 0x55, PREAMBLE_MAX = 7 };
+
+static const uint8_t continuations[4] = { 0x61, 0x52, 0x9e, 0x2a };
+
 static uint8_t mframe[MEMORY];
 static uint32_t length;
+
+/* How many octets 55 lead the mFrame. */
+static uint32_t leading(void)
+{
+	uint32_t n = 0;
+	while (n < length && mframe[n] == PREAMBLE)
+		n++;
+	return n;
+}
+
+/* As many lead it as are wanted, in place of those that did. */
+static void lead_by(uint32_t wanted)
+{
+	uint32_t rest = length - leading();
+	memmove(mframe + wanted, mframe + length - rest, rest);
+	memset(mframe, PREAMBLE, wanted);
+	length = wanted + rest;
+}
 
 static uint32_t crc_over(uint32_t crc, const uint8_t *octets, size_t n)
 {
@@ -259,11 +286,12 @@ static uint32_t crc_over(uint32_t crc, const uint8_t *octets, size_t n)
 /* A continuation that fits a record, or nearly so. */
 static void fitting(const struct plain_receiver *r)
 {
-	static const uint8_t continuations[4] = { 0x61, 0x52, 0x9e, 0x2a };
 	static const uint8_t fragments[4] = { 0xe6, 0x4c, 0x7f, 0xb3 };
 	uint32_t room = r->kept < 1458 ? 1518 - r->kept : 60;
 	uint32_t n = one_in(3) ? between(room - (room > 60), room + 1) : one_in(4) ? between(60, 1518) : between(60, room);
-	memset(mframe, 0x55, 6);
+	if (one_in(20))
+		n = 1518;
+	memset(mframe, PREAMBLE, 6);
 	mframe[6] = continuations[(r->frame + one_in(20)) % 4];
 	mframe[7] = fragments[(r->fragment + one_in(20)) % 4];
 	fill(mframe + 8, n);
@@ -299,32 +327,73 @@ static void exchanged(struct plain_sender *s, uint8_t *body, uint32_t *n)
 	length = w.length;
 }
 
+/* How many 55s come before the delimiter where a link does not hand them on as they were sent: mostly as many as may be, or
+ * fewer. */
+static uint32_t some_preamble(void)
+{
+	switch (chance(8)) {
+	case 0:
+		return between(PREAMBLE_MAX + 1, PREAMBLE_MAX + 2);
+	case 1:
+	case 2:
+		return PREAMBLE_MAX;
+	default:
+		return chance(PREAMBLE_MAX);
+	}
+}
+
+/* So many octets behind a header of one octet or two that are not 55, often about a limit. */
+static void change_length(uint32_t preamble)
+{
+	uint32_t header = preamble + between(1, 2);
+	uint32_t limit = one_in(2) ? 64 : 1522;
+	length = header + near(limit, MEMORY - 16);
+}
+
+/* Spoils an octet or more: anywhere, in the header, of the check octets, or all; or the length. */
 static void damage(void)
 {
 	static const uint8_t eleven[] = { 0xd5, 0xe6, 0x4c, 0x7f, 0xb3, 0x61, 0x52, 0x9e, 0x2a, 0x07, 0x19 };
-	uint32_t which = chance(8), place = chance(which == 0 ? length : 8);
+	uint32_t preamble = leading(), which = chance(8), place = chance(which == 0 ? length : preamble + 2);
 	switch (which) {
 	case 0:
 	case 1:
 		mframe[place] ^= (uint8_t)(1 << chance(8));
 		break;
 	case 2:
-		mframe[6 + place % 2] = eleven[chance(11)];
+		mframe[preamble] = eleven[chance(11)];
 		break;
 	case 3:
-		mframe[6 + place % 2] = (uint8_t)chance(256);
+		mframe[preamble + place % 2] = (uint8_t)chance(256);
 		break;
 	case 4:
 		mframe[length - 1 - place % 4] ^= (uint8_t)between(1, 255);
 		break;
 	case 5:
-		length = near(one_in(2) ? 72 : 1530, MEMORY);
+		change_length(preamble);
 		break;
 	case 6:
 		fill(mframe, length);
 		break;
 	default:
-		mframe[place] = 0x55;
+		mframe[place] = PREAMBLE;
+		break;
+	}
+}
+
+/* Cuts it among its 55s or about its delimiter and fragment code, or makes it longer than any may be. */
+static void cut_or_extend(void)
+{
+	uint32_t preamble = leading();
+	switch (chance(4)) {
+	case 0:
+		length = chance(preamble + 1);
+		break;
+	case 1:
+		length = preamble + chance(4);
+		break;
+	default:
+		length = between(SEATPORT_SIZE_MFRAME_MAX - 1, MEMORY);
 		break;
 	}
 }
@@ -354,6 +423,70 @@ static void hand_on(uint32_t answer)
 	}
 }
 
+/* The headers that were received. Too short: without an octet, of 55s alone, without a fragment code, behind the header. Not
+ * refused, by how many 55s lead: those of a continuation, those of the others, and how many were of the longest. Then all
+ * answers to fewer octets than any mFrame has, and to more. */
+static struct {
+	unsigned too_short[4];
+	unsigned continuation[PREAMBLE_MAX + 1], other[PREAMBLE_MAX + 1], longest;
+	unsigned below[NUMBERS], beyond[NUMBERS];
+} headers;
+
+static bool is_continuation(uint8_t octet)
+{
+	return octet == continuations[0] || octet == continuations[1] || octet == continuations[2] || octet == continuations[3];
+}
+
+static void note_too_short(uint32_t preamble, bool continuation)
+{
+	bool bare = continuation && preamble + 1 == length;
+	headers.too_short[length == 0 ? 0 : preamble == length ? 1 : bare ? 2 : 3]++;
+}
+
+static void note_header(uint32_t answer)
+{
+	uint32_t preamble = leading();
+	bool continuation = preamble < length && is_continuation(mframe[preamble]);
+	if (length < SEATPORT_SIZE_MFRAME_MIN)
+		headers.below[answer]++;
+	if (length > SEATPORT_SIZE_MFRAME_MAX)
+		headers.beyond[answer]++;
+	if (answer == SEATPORT_ANSWER_TOO_SHORT)
+		note_too_short(preamble, continuation);
+	if (answer >= SEATPORT_ANSWER_BUFFER_SHORT && answer < SEATPORT_ANSWER_EXPRESS_DAMAGED)
+		return;
+	if (preamble > PREAMBLE_MAX)
+		fail("too many 55s are not refused");
+	(continuation ? headers.continuation : headers.other)[preamble]++;
+	headers.longest += length == SEATPORT_SIZE_MFRAME_MAX;
+}
+
+/* How often each of several things came about: never is too seldom. */
+static void each(const char *what, const unsigned *times, size_t n)
+{
+	printf("%-12s %s:", "", what);
+	for (size_t i = 0; i < n; i++) {
+		printf(" %u", times[i]);
+		if (times[i] == 0)
+			fail("something never came about");
+	}
+	putchar('\n');
+}
+
+static void print_headers(void)
+{
+	static const unsigned below[] = { 10, 11, 12, 14, 15, 17 }, beyond[] = { 10, 11, 13, 14, 15, 17 };
+	printf("%-12s under 65 octets:", "");
+	print_numbers(headers.below, below, sizeof below / sizeof below[0]);
+	printf("%-12s over 1,531 octets:", "");
+	print_numbers(headers.beyond, beyond, sizeof beyond / sizeof beyond[0]);
+	each("12 for no octet, 55s alone, no fragment code, too few octets", headers.too_short, 4);
+	each("not refused, of 1,531 octets", &headers.longest, 1);
+	each("not refused, behind 0 to 7 octets 55, of C", headers.continuation, PREAMBLE_MAX + 1);
+	each("and of E, S, V, R", headers.other, PREAMBLE_MAX + 1);
+	memset(&headers, 0, sizeof headers);
+}
+
 /* The mFrame given to both. */
 static void receive_one(struct plain_receiver *plain)
 {
@@ -367,17 +500,20 @@ static void receive_one(struct plain_receiver *plain)
 	same(&port_detail, &plain_detail, sizeof port_detail, "another detail");
 	same_memory();
 	hand_on(answer);
+	note_header(answer);
 }
 
-/* Whether the mFrame has an express body; both say the same of it. */
-static bool express_body(void)
+/* Where the mFrame's express body starts, of which both say the same; 0 where it has none. */
+static size_t express_body(void)
 {
 	struct seatport_part part = { 7, 7 };
 	size_t start, m = plain_express_body(mframe, length, &start);
 	seatport_express_body(mframe, length, &part);
 	if (part.start != start || part.length != m)
 		fail("another express body");
-	return m != 0;
+	if (start > PREAMBLE_MAX + 1 || (start == 0) != (m == 0))
+		fail("an express body where none can be");
+	return start;
 }
 
 /* An mFrame that such a record may meet next. */
@@ -387,17 +523,22 @@ static void next_mframe(const struct plain_receiver *r, struct plain_sender *s, 
 		fitting(r);
 	else
 		exchanged(s, body, n);
+	if (one_in(2))
+		lead_by(some_preamble());
 	if (one_in(3))
 		damage();
+	if (one_in(10))
+		cut_or_extend();
 }
 
 static void receive_all(void)
 {
-	static const unsigned numbers[] = { 0, 1, 2, 3, 4, 10, 11, 12, 13, 14, 15, 16, 17, 20, 21, 22, 23, 24, 25 };
+	static const unsigned numbers[] = { 0, 1, 2, 3, 4, 10, 11, 12, 13, 14, 15, 17, 20, 21, 22, 23, 24, 25 };
 	static uint8_t body[MEMORY];
 	struct plain_sender sender = { 1, 0, 0, 0, 0, 0, 0 };
 	struct plain_receiver plain = { 0, 0, 0, 0, 0, 0, 0, 0, 0 };
-	uint32_t n = 0, bodies = 0;
+	unsigned bodies[PREAMBLE_MAX + 2] = { 0 };
+	uint32_t n = 0;
 	call = "receive";
 	lend();
 	for (turn = 0; turn < RECEIVES; turn++) {
@@ -409,14 +550,13 @@ static void receive_all(void)
 		if (broken)
 			spoil(&plain, 5);
 		receive_one(&plain);
-		bodies += express_body();
+		bodies[express_body()]++;
 		if (broken)
 			plain = before;
 	}
 	reached("receiving", numbers, sizeof numbers / sizeof numbers[0]);
-	printf("%-12s %u of %u\n", "express body", (unsigned)bodies, (unsigned)RECEIVES);
-	if (bodies == 0)
-		fail("no express body");
+	print_headers();
+	each("no express body, and one from place 1 to 8 on", bodies, PREAMBLE_MAX + 2);
 }
 
 /* Verification */
@@ -802,7 +942,7 @@ static uint32_t end_one(struct plain_stream *stream, struct plain_receiver *reco
 /* Ends of any state, mostly of one that has an mFrame in its area. */
 static void end_all(void)
 {
-	static const unsigned numbers[] = { 0, 1, 2, 3, 4, 10, 11, 12, 13, 14, 15, 16, 17, 18, 19, 20, 21, 22, 23, 24, 25 };
+	static const unsigned numbers[] = { 0, 1, 2, 3, 4, 10, 11, 12, 13, 14, 15, 17, 18, 19, 20, 21, 22, 23, 24, 25 };
 	static uint8_t body[MEMORY];
 	struct plain_sender sender = { 1, 0, 0, 0, 0, 0, 0 };
 	struct plain_receiver plain = { 0, 0, 0, 0, 0, 0, 0, 0, 0 };
@@ -817,6 +957,10 @@ static void end_all(void)
 		memcpy(port_area, mframe, length);
 		memcpy(plain_area, mframe, length);
 		struct plain_stream stream = { length, 0 };
+		if (length > SEATPORT_SIZE_AREA) {
+			stream.count = SEATPORT_SIZE_AREA;
+			stream.more = 1;
+		}
 		if (any)
 			stream = some_stream();
 		if (broken)
@@ -859,17 +1003,18 @@ static void end_run(struct plain_stream *stream, struct plain_receiver *plain, u
 		fail("the first receiver answers otherwise");
 	same(&first, plain, sizeof first, "another receiving record than the first receiver's");
 	same(port_memory, first_memory, sizeof port_memory, "other octets in lent memory than the first receiver's");
+	note_header(answer);
 }
 
-/* Runs of octets, each with its end: mostly an mFrame, sometimes none or too many. */
+/* Runs of octets, each with its end. */
 static void run_all(void)
 {
-	static const unsigned numbers[] = { 0, 1, 2, 3, 4, 10, 11, 12, 13, 14, 15, 16, 17, 18, 20, 21, 22, 23, 24, 25 };
+	static const unsigned numbers[] = { 0, 1, 2, 3, 4, 10, 11, 12, 13, 14, 15, 17, 18, 20, 21, 22, 23, 24, 25 };
 	static uint8_t body[MEMORY], first_memory[sizeof port_memory];
 	struct plain_sender sender = { 1, 0, 0, 0, 0, 0, 0 };
 	struct plain_receiver plain = { 0, 0, 0, 0, 0, 0, 0, 0, 0 };
 	struct plain_stream stream = { 0, 0 };
-	uint32_t n = 0, octets = 0, longer = 0;
+	uint32_t n = 0, octets = 0;
 	call = "octet and end";
 	lend();
 	lend_area();
@@ -878,10 +1023,7 @@ static void run_all(void)
 		struct plain_receiver before = plain;
 		bool broken = one_in(25);
 		next_mframe(&plain, &sender, body, &n);
-		if (one_in(20))
-			length = one_in(2) ? 0 : between(SEATPORT_SIZE_AREA - 1, MEMORY);
 		octets += length;
-		longer += length > SEATPORT_SIZE_AREA;
 		give_run(&stream);
 		if (broken)
 			spoil(&plain, 5);
@@ -890,7 +1032,8 @@ static void run_all(void)
 			plain = before;
 	}
 	reached("runs", numbers, sizeof numbers / sizeof numbers[0]);
-	printf("%-12s %u octets, %u runs of more than the area keeps\n", "", (unsigned)octets, (unsigned)longer);
+	print_headers();
+	printf("%-12s %u octets\n", "", (unsigned)octets);
 }
 
 int main(void)
