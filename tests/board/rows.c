@@ -133,6 +133,29 @@ static void express_long(void)
 	express(photograph, PHOTOGRAPH);
 }
 
+/* The same mFrame with so many octets 55 at its front, in place of those it had. */
+static void lead_by(uint32_t wanted)
+{
+	uint32_t had = 0;
+	while (mframe[had] == 0x55)
+		had++;
+	memmove(mframe + wanted, mframe + had, length - had);
+	memset(mframe, 0x55, wanted);
+	length = length - had + wanted;
+}
+
+static void express_bare(void)
+{
+	express_short();
+	lead_by(0);
+}
+
+static void preamble_of_eight(void)
+{
+	express_short();
+	lead_by(8);
+}
+
 static void damaged_delimiter(void)
 {
 	express_short();
@@ -252,6 +275,13 @@ static void continuation_256(void)
 static void continuation_1458(void)
 {
 	continuation(SEATPORT_NO_ASK);
+}
+
+/* The longest header: as many 55s as may be, and two octets. */
+static void continuation_led(void)
+{
+	continuation_64();
+	lead_by(7);
 }
 
 /* Receiving as octets come */
@@ -473,19 +503,22 @@ static void plain_lists_events(void)
 const struct row rows[] = {
 	{ "express 72 received", PRESS, express_short, no_receiving, port_receives, plain_receives },
 	{ "express 1,530 received", PHOTOGRAPH, express_long, no_receiving, port_receives, plain_receives },
+	{ "express 65, without any 55", PRESS, express_bare, no_receiving, port_receives, plain_receives },
 	{ "start of 64 received", 64, start_64, no_receiving, port_receives, plain_receives },
 	{ "start of 256 received", 256, start_256, no_receiving, port_receives, plain_receives },
 	{ "start of 1,518 received", PHOTOGRAPH, start_1518, no_receiving, port_receives, plain_receives },
 	{ "continuation of 64 received", 64, continuation_64, no_receiving, port_receives, plain_receives },
 	{ "continuation of 256 received", 256, continuation_256, no_receiving, port_receives, plain_receives },
 	{ "continuation of 1,458 received", 1458, continuation_1458, no_receiving, port_receives, plain_receives },
+	{ "continuation of 64, seven 55s", 64, continuation_led, no_receiving, port_receives, plain_receives },
+	{ "eight 55s received", 0, preamble_of_eight, no_receiving, port_receives, plain_receives },
 	{ "damaged delimiter received", 0, damaged_delimiter, no_receiving, port_receives, plain_receives },
 	{ "delimiter 1 bit away", 0, delimiters_1_away, no_receiving_each, port_receives_each, plain_receives_each },
 	{ "delimiter 2 bits away", 0, delimiters_2_away, no_receiving_each, port_receives_each, plain_receives_each },
 	{ "delimiter 3 bits away", 0, delimiters_3_away, no_receiving_each, port_receives_each, plain_receives_each },
 	{ "delimiter 4 bits away", 0, delimiters_4_away, no_receiving_each, port_receives_each, plain_receives_each },
 	{ "octet, waiting", 1, octets_waiting, no_octets, port_gives, plain_gives },
-	{ "octet beyond 1,530", 0, octets_beyond, no_octets, port_gives, plain_gives },
+	{ "octet beyond 1,531", 0, octets_beyond, no_octets, port_gives, plain_gives },
 	{ "end after 72", PRESS, end_short, no_ending, port_ends, plain_ends },
 	{ "end after 1,530", PHOTOGRAPH, end_long, no_ending, port_ends, plain_ends },
 	{ "press sent express", PRESS, press_sent, nothing, port_sends_express, plain_sends_express },

@@ -1,6 +1,6 @@
 /* The calls that the board and the benchmark measure: each row is one call of the port and the same call of plain.c; of a
  * photograph cut most often, all calls that send it; of an unknown delimiter, the mean over all octets that are as far away;
- * of an octet given by itself, the mean over those of the longest mFrame. */
+ * of an octet given by itself, the mean over those of the longest mFrame that is sent. */
 #ifndef ROWS_H
 #define ROWS_H
 

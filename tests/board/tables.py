@@ -111,7 +111,7 @@ def needs_as_said(options, names):
 def as_octets_come(taken):
     """The cycles that the wire leaves: to an octet until the next one, to an end in the gap behind it, to all calls of an mFrame."""
     cycles = 8 * CLOCK / WIRE
-    against = {"octet, waiting": 1, "octet beyond 1,530": 1, "end after 72": GAP, "end after 1,530": GAP}
+    against = {"octet, waiting": 1, "octet beyond 1,531": 1, "end after 72": GAP, "end after 1,530": GAP}
     calls = [(name, octets, taken[name]) for name, octets in against.items()]
     calls += [(f"{n:,} octets and the end", n + GAP, n * taken["octet, waiting"] + taken[f"end after {n:,}"]) for n in (72, 1530)]
     print(f"As octets come: an octet of the wire takes {cycles:.1f} cycles at {CLOCK // 1_000_000} MHz\n")
