@@ -1,6 +1,6 @@
-/* Receiving in an interrupt handler, octet by octet: a press breaks into a photograph, noise comes between, and the main loop
- * finds both bodies as they were sent. For x86-64, from the folder of the project, once `rt staticlib seatport` has made the
- * archive:
+/* Receiving in an interrupt handler, octet by octet: a press breaks into a photograph, the PHY swallows some of its preamble,
+ * noise comes between, and the main loop finds both bodies as they were sent. For x86-64, from the folder of the project, once
+ * `rt staticlib seatport` has made the archive:
  *
  *     cc -Iinclude examples/interrupt.c target/staticlib/libseatport.a -o interrupt
  *
@@ -13,7 +13,7 @@
 #include <stdio.h>
 #include <string.h>
 
-enum { PHOTOGRAPH = 1518, PRESS = 60, PRESSED_AT = 500, NOISE = 2000, FIFO = 16, MAIN_LOOP_AT = 32 };
+enum { PHOTOGRAPH = 1518, PRESS = 60, PRESSED_AT = 500, SWALLOWED = 5, NOISE = 2000, FIFO = 16, MAIN_LOOP_AT = 32 };
 
 /* The port's FIFO: octets as they came, the last one of each mFrame marked. So the end is told between the right two octets,
  * however late the handler comes. */
@@ -153,10 +153,10 @@ int main(void)
 	wire(output, written.length);
 	if (seatport_express(press, PRESS, output, sizeof output, &written) != SEATPORT_SENT_WRITTEN)
 		return 1;
-	wire(output, written.length);
-	wire(output, 40);   /* cut short */
-	wire(noise, 20);    /* at its end the main loop has had no turn yet: missed */
-	wire(noise, NOISE); /* longer than an mFrame may be */
+	wire(output + SWALLOWED, written.length - SWALLOWED); /* two of its seven 55s are left */
+	wire(output, 40);                                     /* cut short */
+	wire(noise, 20);                                      /* at its end the main loop has had no turn yet: missed */
+	wire(noise, NOISE);                                   /* too long, but refused for its first octet already */
 	if (seatport_verify(output, sizeof output, &written) != SEATPORT_SENT_WRITTEN)
 		return 1;
 	wire(output, written.length);

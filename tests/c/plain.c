@@ -364,7 +364,7 @@ struct head {
 	size_t length; /* of the header */
 };
 
-/* 0, or the number of the refusal. The head of an mFrame that is too long is read as well: what it is refused for comes first. */
+/* 0, or the number of the refusal. Too few octets or too many are the last that it is refused for. */
 static int read_head(const uint8_t *mframe, size_t n, struct head *head)
 {
 	size_t at = preamble_of(mframe, n);
@@ -469,7 +469,7 @@ int plain_end(struct plain_stream *s, const uint8_t *area, size_t size, struct p
 		return 18;
 	if (!stream_in_range(s))
 		return 19;
-	/* However many there were more, one is enough to be too long behind any header, and no octet behind a header is looked at. */
+	/* However many there were more, one makes it too long behind any header, and of such only the header is looked at. */
 	uint32_t n = s->count + s->more;
 	s->count = s->more = 0;
 	return plain_receive(r, area, n, buffer, room, detail);
