@@ -133,27 +133,25 @@ static void express_long(void)
 	express(photograph, PHOTOGRAPH);
 }
 
-/* The same mFrame with so many octets 55 at its front, in place of those it had. */
-static void lead_by(uint32_t wanted)
-{
-	uint32_t had = 0;
-	while (mframe[had] == 0x55)
-		had++;
-	memmove(mframe + wanted, mframe + had, length - had);
-	memset(mframe, 0x55, wanted);
-	length = length - had + wanted;
-}
-
+/* None of its seven 55s is left. */
 static void express_bare(void)
 {
 	express_short();
-	lead_by(0);
+	length -= 7;
+	memmove(mframe, mframe + 7, length);
+}
+
+/* A 55 more than it is sent with. */
+static void lead_by_one_more(void)
+{
+	memmove(mframe + 1, mframe, length);
+	length++;
 }
 
 static void preamble_of_eight(void)
 {
 	express_short();
-	lead_by(8);
+	lead_by_one_more();
 }
 
 static void damaged_delimiter(void)
@@ -277,11 +275,11 @@ static void continuation_1458(void)
 	continuation(SEATPORT_NO_ASK);
 }
 
-/* The longest header: as many 55s as may be, and two octets. */
+/* The longest header: seven 55s in place of six, and two octets. */
 static void continuation_led(void)
 {
 	continuation_64();
-	lead_by(7);
+	lead_by_one_more();
 }
 
 /* Receiving as octets come */

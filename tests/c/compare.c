@@ -423,11 +423,13 @@ static void hand_on(uint32_t answer)
 	}
 }
 
-/* The headers that were received. Too short: without an octet, of 55s alone, without a fragment code, behind the header. Not
- * refused, by how many 55s lead: those of a continuation, those of the others, and how many were of the longest. Then all
- * answers to fewer octets than any mFrame has, and to more. */
+/* What an mFrame that is too short ends before. */
+enum shortage { ANY_OCTET, DELIMITER, FRAGMENT_CODE, DATA, SHORTAGES };
+
+/* The headers that were received. Of those not refused, by how many 55s lead: those of a continuation, those of the others,
+ * and how many had the longest mFrame. Then all answers to fewer octets than any mFrame has, and to more. */
 static struct {
-	unsigned too_short[4];
+	unsigned too_short[SHORTAGES];
 	unsigned continuation[PREAMBLE_MAX + 1], other[PREAMBLE_MAX + 1], longest;
 	unsigned below[NUMBERS], beyond[NUMBERS];
 } headers;
@@ -437,10 +439,13 @@ static bool is_continuation(uint8_t octet)
 	return octet == continuations[0] || octet == continuations[1] || octet == continuations[2] || octet == continuations[3];
 }
 
-static void note_too_short(uint32_t preamble, bool continuation)
+static enum shortage shortage(uint32_t preamble, bool continuation)
 {
-	bool bare = continuation && preamble + 1 == length;
-	headers.too_short[length == 0 ? 0 : preamble == length ? 1 : bare ? 2 : 3]++;
+	if (length == 0)
+		return ANY_OCTET;
+	if (preamble == length)
+		return DELIMITER;
+	return continuation && preamble + 1 == length ? FRAGMENT_CODE : DATA;
 }
 
 static void note_header(uint32_t answer)
@@ -452,7 +457,7 @@ static void note_header(uint32_t answer)
 	if (length > SEATPORT_SIZE_MFRAME_MAX)
 		headers.beyond[answer]++;
 	if (answer == SEATPORT_ANSWER_TOO_SHORT)
-		note_too_short(preamble, continuation);
+		headers.too_short[shortage(preamble, continuation)]++;
 	if (answer >= SEATPORT_ANSWER_BUFFER_SHORT && answer < SEATPORT_ANSWER_EXPRESS_DAMAGED)
 		return;
 	if (preamble > PREAMBLE_MAX)
@@ -480,7 +485,7 @@ static void print_headers(void)
 	print_numbers(headers.below, below, sizeof below / sizeof below[0]);
 	printf("%-12s over 1,531 octets:", "");
 	print_numbers(headers.beyond, beyond, sizeof beyond / sizeof beyond[0]);
-	each("12 for no octet, 55s alone, no fragment code, too few octets", headers.too_short, 4);
+	each("12 for no octet, no delimiter, no fragment code, too few octets", headers.too_short, SHORTAGES);
 	each("not refused, of 1,531 octets", &headers.longest, 1);
 	each("not refused, behind 0 to 7 octets 55, of C", headers.continuation, PREAMBLE_MAX + 1);
 	each("and of E, S, V, R", headers.other, PREAMBLE_MAX + 1);
