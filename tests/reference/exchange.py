@@ -6,10 +6,12 @@ octets arrive that nobody sent.
 
 from dataclasses import replace
 
+import codes
 import mframe
 import sending
 
 ROOM = bytes(sending.LEAST_ROOM)
+LEADING = bytes([mframe.PREAMBLE])
 
 
 class Sender:
@@ -40,14 +42,30 @@ def with_bit_turned(octets, place):
     return bytes(turned)
 
 
+def leading(octets):
+    """How many octets 55 stand at the front, which is also where the delimiter is."""
+    return len(octets) - len(octets.lstrip(LEADING))
+
+
+def swallowed(mframes, chance):
+    """The mFrames behind a PHY that swallows leading octets 55: of one in three some, of one in three all or nearly all."""
+    left = []
+    for octets in mframes:
+        which = chance.below(3)
+        most = leading(octets)
+        left.append(octets[(0, chance.below(most + 1), max(0, most - chance.below(2)))[which]:])
+    return left
+
+
 def damaged(octets, chance):
     """An mFrame on which something happened: turned bits, an octet replaced, an end cut off or hung on."""
     which = chance.below(8)
     if which < 3:
         return with_bit_turned(octets, chance.below(8 * len(octets)))
     if which == 3:
-        # Within the last two octets of the header, where kind and counts are.
-        return with_bit_turned(octets, chance.between(48, 63))
+        # In the delimiter or the octet behind it, where kind and counts are.
+        place = leading(octets)
+        return with_bit_turned(octets, chance.between(8 * place, 8 * place + 15))
     if which == 4:
         # A burst of octets.
         place = chance.below(len(octets))
@@ -57,23 +75,24 @@ def damaged(octets, chance):
         return octets[:chance.below(len(octets))]
     if which == 6:
         return octets + chance.octets(chance.between(1, 5))
-    # Octets lost from the front, as when a port locks on late.
-    return octets[chance.between(1, 8):]
+    # Octets lost from the front, and not only of the preamble, or too many of them.
+    if chance.below(2) == 0:
+        return octets[chance.between(1, 9):]
+    return LEADING * chance.between(1, 4) + octets
 
 
 def stray(chance):
-    """Octets that nobody sent: short noise, or noise behind a good header."""
+    """Octets that nobody sent: short noise, or noise behind leading octets 55 or a known delimiter."""
     which = chance.below(4)
     if which == 0:
-        return chance.octets(chance.below(72))
+        return LEADING * chance.below(10) + chance.octets(chance.below(65))
     if which == 1:
-        return chance.octets(chance.between(72, 90))
-    header = bytearray([mframe.PREAMBLE] * 8)
+        return chance.octets(chance.between(65, 90))
+    preamble = LEADING * chance.below(10)
     if which == 2:
-        header[7] = chance.below(256)
-    else:
-        header[6], header[7] = chance.below(256), chance.below(256)
-    return bytes(header) + chance.octets(chance.between(64, 70))
+        return preamble + chance.octets(chance.between(65, 73))
+    code = codes.DELIMITERS[chance.below(len(codes.DELIMITERS))].code
+    return preamble + bytes([code]) + chance.octets(chance.between(63, 70))
 
 
 def sent_in_turn(chance, count, greatest_body):

@@ -3,15 +3,17 @@
 The third demand says of such a link: both ends start fresh, preemption is active, and of
 the mFrames some are lost, but never four preemptable ones in a row, those of other kinds
 not counted. Then the frames delivered are exactly those sent to their end that lost no
-mFrame, in each lane in the order of sending.
+mFrame, in each lane in the order of sending. With document 02, (vi) this also holds when
+the link drops any number of leading octets 55, of each mFrame its own number.
 
-Link is the two ends and the way between them; somebody else says what is called and what
-gets lost. play() has a whole game of it played by a fixed rule from a seed. The rule is
+Link is the two ends and the way between them; somebody else says what is called, what gets
+lost and what is dropped. play() has a whole game of it played by a fixed rule from a seed. The rule is
 in README.md as a table, so that a program in another language can play the same game.
 """
 
 from dataclasses import dataclass, replace
 
+import mframe
 import receiving
 import sending
 
@@ -21,13 +23,20 @@ LONGEST_RUN = 3
 
 @dataclass(frozen=True)
 class Passage:
-    """An mFrame that was written, with the body it is of (None for V and R) and its fate."""
+    """An mFrame that was written, with the body it is of (None for V and R) and its fate.
+
+    `arrived` is what the receiver was given of it, None where it was lost.
+    """
 
     octets: bytes
     is_preemptable: bool
     body: bytes | None
     done: bool
-    lost: bool
+    arrived: bytes | None
+
+    @property
+    def lost(self):
+        return self.arrived is None
 
 
 @dataclass(frozen=True)
@@ -38,16 +47,25 @@ class Heard:
     body: bytes | None
 
 
+def shortened(octets, dropped):
+    """An mFrame without so many of its leading octets 55, as far as there are such octets."""
+    for _ in range(dropped):
+        octets = octets.removeprefix(bytes([mframe.PREAMBLE]))
+    return octets
+
+
 class Link:
     """Both ends, fresh at first, and all that happened between them.
 
     `lose` is asked about every mFrame written, when it is written, and says whether it is
     to be lost. A preemptable one arrives all the same while `longest_run` of its kind have
-    been lost in a row. The third demand speaks of links whose longest run is 3.
+    been lost in a row. The third demand speaks of links whose longest run is 3. `drop` is
+    asked about every mFrame that arrives, and says how many leading octets 55 it loses.
     """
 
-    def __init__(self, lose, longest_run=LONGEST_RUN):
+    def __init__(self, lose, drop=lambda: 0, longest_run=LONGEST_RUN):
         self.lose = lose
+        self.drop = drop
         self.longest_run = longest_run
         self.sender = sending.fresh(active=True)
         self.receiver = receiving.fresh()
@@ -95,11 +113,13 @@ class Link:
         if is_preemptable:
             lost = lost and self.run < self.longest_run
             self.run = self.run + 1 if lost else 0
-        self.passages.append(Passage(octets, is_preemptable, body, answer.done, lost))
+        arrived = None if lost else shortened(octets, self.drop())
+        self.passages.append(Passage(octets, is_preemptable, body, answer.done, arrived))
         if not lost:
-            self.arrived(octets)
+            self.give(arrived)
 
-    def arrived(self, octets):
+    def give(self, octets):
+        """What the receiver makes of an mFrame that arrives."""
         answer, self.receiver = receiving.receive(self.memory, self.receiver, octets)
         body = None
         if answer.number == receiving.EXPRESS_DELIVERED:
@@ -192,7 +212,7 @@ def preemptable_turn(link, draws, frame):
 def play(seed, turns, longest_run=LONGEST_RUN):
     """The link after so many turns of the game that `seed` gives."""
     draws = Draws(seed)
-    link = Link(lambda: draws.draw(3) == 0, longest_run)
+    link = Link(lambda: draws.draw(3) == 0, lambda: draws.draw(9), longest_run)
     frame = None
     for _ in range(turns):
         turn = draws.draw(16)

@@ -1,32 +1,48 @@
-"""Whole mFrames, octet by octet: document 01, "Octets of an mFrame".
+"""Whole mFrames, octet by octet: document 01, "Octets of an mFrame", and what document 02, (vi) lets arrive of them.
 
-An mFrame is a header of 8 octets, data, and four check octets.
+As it is sent, an mFrame is a header of 8 octets, data, and four check octets. On the way it can lose any of its
+leading octets 55, so that one that arrives has a header of 1 to 9 octets.
 """
 
 import codes
 import crc
 
 PREAMBLE = 0x55
-HEADER_OCTETS = 8
+# As many octets 55 may stand before a delimiter, and as few as none.
+MOST_PREAMBLE = 7
 
 LEAST_BODY = 60
 GREATEST_BODY = 1518
 
-LEAST_MFRAME = HEADER_OCTETS + LEAST_BODY + crc.CHECK_OCTETS
-GREATEST_MFRAME = HEADER_OCTETS + GREATEST_BODY + crc.CHECK_OCTETS
+# What stands behind the header: data and four check octets.
+LEAST_BEHIND_HEADER = LEAST_BODY + crc.CHECK_OCTETS
+GREATEST_BEHIND_HEADER = GREATEST_BODY + crc.CHECK_OCTETS
+
+# What a sender writes: every header has eight octets.
+SENT_HEADER_OCTETS = 8
+LONGEST_SENT = SENT_HEADER_OCTETS + GREATEST_BEHIND_HEADER
+
+# What a receiver does not refuse for its length: from a delimiter alone to a continuation behind seven octets 55.
+SHORTEST_ACCEPTED = 1 + LEAST_BEHIND_HEADER
+LONGEST_ACCEPTED = MOST_PREAMBLE + 2 + GREATEST_BEHIND_HEADER
 
 # What V and R carry.
 VERIFICATION_DATA = bytes(60)
 
 
+def header(preamble, *codes_behind):
+    """So many octets of preamble, then the delimiter and, in a continuation, the fragment code."""
+    return bytes([PREAMBLE] * preamble + [*codes_behind])
+
+
 def late_header(code):
-    """Seven octets of preamble, then the delimiter: E, S, V and R."""
-    return bytes([PREAMBLE] * 7 + [code])
+    """Seven octets of preamble, then the delimiter: E, S, V and R as they are sent."""
+    return header(7, code)
 
 
 def early_header(code, fragment_code):
-    """Six octets of preamble, the delimiter and a fragment code: C."""
-    return bytes([PREAMBLE] * 6 + [code, fragment_code])
+    """Six octets of preamble, the delimiter and a fragment code: C as it is sent."""
+    return header(6, code, fragment_code)
 
 
 def express(body):

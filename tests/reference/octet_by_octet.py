@@ -1,4 +1,4 @@
-"""The second receiver, which gets its octets one at a time: document 02, request (iv).
+"""The second receiver, which gets its octets one at a time: document 02, request (iv), with the limit of (vi).
 
 It is given one octet, or the end of the mFrame, and up to an end it answers only that it
 waits. What it answers at an end it does not find itself: the first receiver (receiving.py)
@@ -12,8 +12,9 @@ import mframe
 import receiving
 from receiving import Answer
 
-# Octets beyond have no place in the area: an mFrame that has one is too long, whatever else comes.
-MOST_OCTETS = mframe.GREATEST_MFRAME
+# Octets beyond have no place in the area. What has so many is refused: its head is among the first of them, and if
+# nothing is wrong there, it is too long.
+MOST_OCTETS = mframe.LONGEST_ACCEPTED
 
 AREA_SHORT = 18
 STATE_UNSOUND = 19

@@ -1,11 +1,12 @@
-"""The receiving side: document 01, "Receiving" and "Counters".
+"""The receiving side: document 01, "Receiving" and "Counters", with the shortened preambles of document 02, (vi).
 
-First it is found which number answers the mFrame, then what that number means for the
-record, the counters and the lent memory. The three are kept apart, as document 01 lists
-them apart.
+An mFrame is first taken apart: its head, and what stands behind it. Then it is found which
+number answers it, and last what that number means for the record, the counters and the lent
+memory. These are kept apart, as document 01 lists them apart.
 """
 
 from dataclasses import dataclass, replace
+from typing import NamedTuple
 
 import codes
 import crc
@@ -23,9 +24,9 @@ BUFFER_SHORT = 10
 RECORD_OUT_OF_RANGE = 11
 MFRAME_SHORT = 12
 MFRAME_LONG = 13
-PREAMBLE_WRONG = 14
+PREAMBLE_LONG = 14
 DELIMITER_UNKNOWN = 15
-DELIMITER_OUT_OF_PLACE = 16
+# 16 is not given any more, since document 02, (vi) lets every delimiter stand in any place.
 FRAGMENT_CODE_UNKNOWN = 17
 
 EXPRESS_DAMAGED = 20
@@ -89,37 +90,60 @@ def in_range(assembly):
             and mframe.LEAST_BODY <= assembly.kept <= mframe.GREATEST_BODY)
 
 
-def delimiter_of(octets):
-    """What stands as delimiter, and its place: place 7 where place 6 is still preamble, else place 6."""
-    place = 7 if octets[6] == mframe.PREAMBLE else 6
-    return codes.as_delimiter(octets[place]), place
+class Head(NamedTuple):
+    """An mFrame taken apart. What the octets end before is None, and behind it stands nothing."""
+
+    preamble: int
+    delimiter: codes.Delimiter | codes.Unknown | None
+    # The octet in the fragment code's place, which only a continuation has.
+    fragment_code: int | None
+    behind: bytes
+
+    def is_of(self, kind):
+        return isinstance(self.delimiter, codes.Delimiter) and self.delimiter.kind == kind
 
 
-def refusal(room, record, octets):
-    """The answer from 10 to 17 that applies, in the table's order, or None."""
-    if room < LEAST_ROOM:
-        return Answer(BUFFER_SHORT)
-    if not in_range(record.assembly):
-        return Answer(RECORD_OUT_OF_RANGE)
-    if len(octets) < mframe.LEAST_MFRAME:
-        return Answer(MFRAME_SHORT)
-    if len(octets) > mframe.GREATEST_MFRAME:
-        return Answer(MFRAME_LONG)
-    if any(octet != mframe.PREAMBLE for octet in octets[:6]):
-        return Answer(PREAMBLE_WRONG)
-    delimiter, place = delimiter_of(octets)
-    if isinstance(delimiter, codes.Unknown):
-        return Answer(DELIMITER_UNKNOWN, delimiter.differing_bits)
-    if (delimiter.kind == codes.CONTINUATION) != (place == 6):
-        return Answer(DELIMITER_OUT_OF_PLACE)
-    if delimiter.kind == codes.CONTINUATION and codes.as_fragment_count(octets[7]) is None:
-        return Answer(FRAGMENT_CODE_UNKNOWN)
-    return None
+def first_and_others(octets):
+    """The first octet, None where there is none, and those behind it."""
+    return (octets[0] if octets else None), octets[1:]
 
 
-def whole_answer(kind, octets):
+def head_of(octets):
+    """The leading octets 55 are stripped off, however many; the delimiter is the first of what is left."""
+    stripped = octets.lstrip(bytes([mframe.PREAMBLE]))
+    code, behind = first_and_others(stripped)
+    head = Head(len(octets) - len(stripped), None if code is None else codes.as_delimiter(code), None, behind)
+    if head.is_of(codes.CONTINUATION):
+        fragment_code, behind = first_and_others(behind)
+        head = head._replace(fragment_code=fragment_code, behind=behind)
+    return head
+
+
+# What is refused, in document 02's order: the number, and whether it applies, given the room of the lent memory, the
+# assembly and the head. 12 is also the answer to octets that end in the head, because nothing stands behind it then.
+REFUSALS = (
+    (BUFFER_SHORT, lambda room, _assembly, _head: room < LEAST_ROOM),
+    (RECORD_OUT_OF_RANGE, lambda _room, assembly, _head: not in_range(assembly)),
+    (PREAMBLE_LONG, lambda _room, _assembly, head: head.preamble > mframe.MOST_PREAMBLE),
+    (DELIMITER_UNKNOWN, lambda _room, _assembly, head: isinstance(head.delimiter, codes.Unknown)),
+    (FRAGMENT_CODE_UNKNOWN, lambda _room, _assembly, head: head.fragment_code is not None
+     and codes.as_fragment_count(head.fragment_code) is None),
+    (MFRAME_SHORT, lambda _room, _assembly, head: len(head.behind) < mframe.LEAST_BEHIND_HEADER),
+    (MFRAME_LONG, lambda _room, _assembly, head: len(head.behind) > mframe.GREATEST_BEHIND_HEADER),
+)
+
+
+def refusal(room, assembly, head):
+    """The answer from 10 to 17 that applies, the first in the order, or None."""
+    number = next((number for number, applies in REFUSALS if applies(room, assembly, head)), None)
+    if number is None:
+        return None
+    return Answer(number, head.delimiter.differing_bits if number == DELIMITER_UNKNOWN else 0)
+
+
+def whole_answer(kind, behind):
     """The answer to an unrefused E, V or R. For E only the FCS is good, for V and R only the mCRC."""
-    end = crc.ending(crc.ALL_ONES, octets[mframe.HEADER_OCTETS:])
+    end = crc.ending(crc.ALL_ONES, behind)
     if kind == codes.EXPRESS:
         if isinstance(end, crc.Done):
             return Answer(EXPRESS_DELIVERED, end.data_octets)
@@ -141,27 +165,27 @@ def continuation_drop(assembly, frame_count, fragment_count, data_octets, end):
     return next((number for number, applies in drops if applies), None)
 
 
-def part_answer(assembly, delimiter, octets):
+def part_answer(assembly, head):
     """The answer to an unrefused S or C, and the assembly afterwards."""
-    is_start = delimiter.kind == codes.START
+    is_start = head.is_of(codes.START)
+    frame_count = head.delimiter.frame_count
     # A start opens a fresh assembly, whatever was open before.
     register, kept = (crc.ALL_ONES, 0) if is_start else (assembly.register, assembly.kept)
-    end = crc.ending(register, octets[mframe.HEADER_OCTETS:])
+    end = crc.ending(register, head.behind)
     if is_start:
         drop = PART_DAMAGED if isinstance(end, crc.Damaged) else None
         next_fragment_count = 0
     else:
-        fragment_count = codes.as_fragment_count(octets[7])
-        data_octets = len(octets) - mframe.HEADER_OCTETS - crc.CHECK_OCTETS
-        drop = continuation_drop(assembly, delimiter.frame_count, fragment_count, data_octets, end)
+        fragment_count = codes.as_fragment_count(head.fragment_code)
+        data_octets = len(head.behind) - crc.CHECK_OCTETS
+        drop = continuation_drop(assembly, frame_count, fragment_count, data_octets, end)
         next_fragment_count = codes.next_fragment_count(fragment_count)
     if drop is not None:
         return Answer(drop), NOT_ASSEMBLING
     kept += end.data_octets
     if isinstance(end, crc.Done):
         return Answer(PREEMPTABLE_DELIVERED, kept), NOT_ASSEMBLING
-    return (Answer(FRAGMENT_KEPT, kept),
-            Assembly(True, delimiter.frame_count, next_fragment_count, kept, end.register))
+    return Answer(FRAGMENT_KEPT, kept), Assembly(True, frame_count, next_fragment_count, kept, end.register)
 
 
 def counters_after(counters, assembling, kind, number):
@@ -173,8 +197,7 @@ def counters_after(counters, assembling, kind, number):
     abandoned = assembling and (kind == codes.START
                                 or number in (COUNT_NOT_EXPECTED, FRAME_TOO_LONG, PART_DAMAGED))
     damaged_start = kind == codes.START and number == PART_DAMAGED
-    delimiter_error = number in (DELIMITER_UNKNOWN, DELIMITER_OUT_OF_PLACE, FRAGMENT_CODE_UNKNOWN,
-                                 NOTHING_IN_ASSEMBLY)
+    delimiter_error = number in (DELIMITER_UNKNOWN, FRAGMENT_CODE_UNKNOWN, NOTHING_IN_ASSEMBLY)
     # What a continuation completes took two mFrames or more; what a start completes took one.
     assembled = kind == codes.CONTINUATION and number == PREEMPTABLE_DELIVERED
     fragment = kind == codes.CONTINUATION and number in (PREEMPTABLE_DELIVERED, FRAGMENT_KEPT)
@@ -188,19 +211,18 @@ def counters_after(counters, assembling, kind, number):
 
 def receive(memory, record, octets):
     """Takes one mFrame; gives the answer and the record afterwards. The lent memory is written to in place."""
-    octets = bytes(octets)
+    head = head_of(bytes(octets))
     assembly = record.assembly
-    answer = refusal(len(memory), record, octets)
+    answer = refusal(len(memory), assembly, head)
     kind = None
     if answer is None:
-        delimiter, _ = delimiter_of(octets)
-        kind = delimiter.kind
+        kind = head.delimiter.kind
         if kind in (codes.START, codes.CONTINUATION):
-            answer, assembly = part_answer(record.assembly, delimiter, octets)
+            answer, assembly = part_answer(record.assembly, head)
         else:
-            answer = whole_answer(kind, octets)
-    if kind in (codes.START, codes.CONTINUATION) and answer.number in (PREEMPTABLE_DELIVERED, FRAGMENT_KEPT):
-        data = octets[mframe.HEADER_OCTETS:-crc.CHECK_OCTETS]
+            answer = whole_answer(kind, head.behind)
+    if answer.number in (PREEMPTABLE_DELIVERED, FRAGMENT_KEPT):
+        data = head.behind[:-crc.CHECK_OCTETS]
         memory[answer.detail - len(data):answer.detail] = data
     counters = counters_after(record.counters, record.assembly.assembling, kind, answer.number)
     return answer, replace(record, assembly=assembly, counters=counters)
@@ -209,10 +231,11 @@ def receive(memory, record, octets):
 def express_body(octets):
     """Where in the mFrame the express body begins and how long it is.
 
-    It is places 8 up to the last four if a fresh record and 1,518 octets of memory would
-    give answer 0, else the empty part at the front.
+    It is what stands between the header and the last four octets if a fresh record and 1,518
+    octets of memory would give answer 0, else the empty part at the front.
     """
     answer, _ = receive(bytearray(LEAST_ROOM), fresh(), octets)
     if answer.number != EXPRESS_DELIVERED:
         return 0, 0
-    return mframe.HEADER_OCTETS, len(octets) - mframe.HEADER_OCTETS - crc.CHECK_OCTETS
+    behind = head_of(bytes(octets)).behind
+    return len(octets) - len(behind), len(behind) - crc.CHECK_OCTETS

@@ -12,7 +12,7 @@ import mframe
 from cut import WHOLE, cut
 
 # However short the mFrame: room for the longest is always asked for.
-LEAST_ROOM = mframe.GREATEST_MFRAME
+LEAST_ROOM = mframe.LONGEST_SENT
 
 # A frame in progress has sent no less, and has no less of its body left.
 LEAST_SENT = 60
