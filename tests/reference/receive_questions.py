@@ -1,4 +1,4 @@
-"""The questions asked about document 01's "Receiving" and "Counters".
+"""The questions asked about document 01's "Receiving" and "Counters", with the heads of document 02, (vi).
 
 Answers are not looked at here. Only the record is followed with the reference, so that
 it is set anew where a question needs another one.
@@ -29,6 +29,14 @@ VERIFY_CODE = codes.lone_code(codes.VERIFY)
 RESPOND_CODE = codes.lone_code(codes.RESPOND)
 
 MORE, DONE, DAMAGED = "more", "done", "damaged"
+
+# As many octets 55 as may stand before a delimiter, and two that are too many.
+GOOD_PREAMBLES = range(mframe.MOST_PREAMBLE + 1)
+PREAMBLES = range(mframe.MOST_PREAMBLE + 3)
+
+# None of the eleven: among them such as differ from 55 in one bit, and one bit from a delimiter.
+UNKNOWN_DELIMITERS = (0x00, 0x54, 0x57, 0x5D, 0x45, 0xD4, 0xAD, 0xAA, 0xFF)
+UNKNOWN_FRAGMENT_CODES = (0x00, 0x54, 0x55, 0x61, 0xD5, 0xE7)
 
 
 class Script:
@@ -71,23 +79,23 @@ def closed(header, data, end, register=crc.ALL_ONES):
     return header + data + check_octets(crc.register_after(register, data), end)
 
 
-def start(frame_count, data, end):
-    return closed(mframe.late_header(codes.start_code(frame_count)), data, end)
+def start(frame_count, data, end, preamble=7):
+    return closed(mframe.header(preamble, codes.start_code(frame_count)), data, end)
 
 
-def continuation(frame_count, fragment_count, register, data, end):
-    header = mframe.early_header(codes.continuation_code(frame_count), codes.fragment_code(fragment_count))
+def continuation(frame_count, fragment_count, register, data, end, preamble=6):
+    header = mframe.header(preamble, codes.continuation_code(frame_count), codes.fragment_code(fragment_count))
     return closed(header, data, end, register)
 
 
-def fitting(assembly, data, end):
+def fitting(assembly, data, end, preamble=6):
     """The continuation that `assembly` waits for."""
-    return continuation(assembly.frame_count, assembly.next_fragment_count, assembly.register, data, end)
+    return continuation(assembly.frame_count, assembly.next_fragment_count, assembly.register, data, end, preamble)
 
 
-def late(code, data, end):
-    """An mFrame of whatever kind with its delimiter at place 7."""
-    return closed(mframe.late_header(code), data, end)
+def late(code, data, end, preamble=7):
+    """An mFrame of whatever kind without a fragment code, its delimiter at place 7 where nothing else is said."""
+    return closed(mframe.header(preamble, code), data, end)
 
 
 def open_assembly(chance, frame_count=0, next_fragment_count=0, kept=64):
@@ -129,18 +137,20 @@ def rooms(script, chance):
 
 def of_length(header, length, octets, end):
     """An mFrame of so many octets in all with a good check, where there is room for one."""
-    if length < 12:
+    behind = length - len(header)
+    if behind < crc.CHECK_OCTETS:
         return (header + octets)[:length]
-    return closed(header, octets[:length - 12], end)
+    return closed(header, octets[:behind - crc.CHECK_OCTETS], end)
 
 
 def lengths(script, chance):
-    """12 and 13 at both sides, with checks that would be good."""
+    """12 from the empty input on, and 13, with checks that would be good, behind headers as they are sent and shorter."""
     octets = chance.octets(2048)
-    express_header = mframe.late_header(EXPRESS_CODE)
     script.want(NOT_ASSEMBLING)
     for length in range(76):
-        script.give(of_length(express_header, length, octets, DONE))
+        script.give(of_length(mframe.late_header(EXPRESS_CODE), length, octets, DONE))
+    for length in range(1, 68):
+        script.give(of_length(mframe.header(0, EXPRESS_CODE), length, octets, DONE))
     for code in (codes.start_code(2), VERIFY_CODE, RESPOND_CODE):
         for length in (0, 1, 6, 7, 8, 11, 12, 70, 71, 72, 73):
             script.give(of_length(mframe.late_header(code), length, octets, MORE))
@@ -148,26 +158,98 @@ def lengths(script, chance):
         assembly = open_assembly(chance, 1, 3, 100)
         script.want(assembly)
         script.give(fitting(assembly, octets[:max(0, length - 12)], MORE)[:length])
-    # All 55, and nothing at all that an mFrame needs.
-    for length in (6, 7, 8, 71, 72):
-        script.give(bytes([mframe.PREAMBLE]) * length)
     script.want(NOT_ASSEMBLING)
-    for length in (1529, 1530, 1531, 1532, 2048):
-        script.give(of_length(express_header, length, octets, DONE))
-    for end in (MORE, DONE):
-        for length in (1529, 1530, 1531):
-            script.want(NOT_ASSEMBLING)
-            script.give(of_length(mframe.late_header(codes.start_code(0)), length, octets, end))
-    for length in (1530, 1531):
-        script.give(of_length(mframe.late_header(VERIFY_CODE), length, octets, MORE))
-        script.give(of_length(mframe.late_header(RESPOND_CODE), length, octets, MORE))
-        assembly = open_assembly(chance)
+    for length in (1532, 2048):
+        script.give(of_length(mframe.late_header(EXPRESS_CODE), length, octets, DONE))
+
+
+def with_behind(chance, behind, preamble, script):
+    """mFrames of every kind with so many octets behind the header, all of them with good checks; the C fits."""
+    data = chance.octets(behind - crc.CHECK_OCTETS)
+    is_long = behind > 1000
+    assembly = open_assembly(chance, preamble % 4, 3, 60)
+    # Long ones are asked more sparingly: they make the file large.
+    others = [] if is_long and preamble % 7 else [(start(preamble % 4, data, MORE, preamble), NOT_ASSEMBLING),
+                                                  (late(VERIFY_CODE, data, MORE, preamble), assembly),
+                                                  (late(RESPOND_CODE, data, MORE, preamble), NOT_ASSEMBLING)]
+    for octets, open_or_not in [(late(EXPRESS_CODE, data, DONE, preamble), NOT_ASSEMBLING),
+                                (fitting(assembly, data, DONE, preamble), assembly), *others]:
+        script.want(open_or_not)
+        script.give(octets)
+
+
+def limits(script, chance):
+    """Both limits at both sides for headers of 1 to 9 octets, so that mFrames have 65 to 1,531 octets in all."""
+    for preamble, behind in product(GOOD_PREAMBLES, (63, 64, 65, 1522, 1523)):
+        with_behind(chance, behind, preamble, script)
+    # As short in all as one with a longer header would have to be, and as long.
+    for preamble, behind in ((0, 71), (1, 70), (6, 65), (0, 1529), (0, 1530)):
+        script.want(NOT_ASSEMBLING)
+        script.give(late(EXPRESS_CODE, chance.octets(behind - crc.CHECK_OCTETS), DONE, preamble))
+    # The longest of all is a continuation: for no assembly, for another count, too much for one, damaged.
+    data = chance.octets(1518)
+    assembly = open_assembly(chance, 1, 1, 60)
+    for open_or_not, fragment_count, end in ((NOT_ASSEMBLING, 1, MORE), (assembly, 2, DONE), (assembly, 1, MORE),
+                                             (assembly, 1, DAMAGED)):
+        script.want(open_or_not)
+        script.give(continuation(1, fragment_count, assembly.register, data, end, preamble=7))
+
+
+def ends_in_the_head(script, chance):
+    """12: the octets end in each place of the head, before the delimiter, before the fragment code and behind either."""
+    for assembly in (NOT_ASSEMBLING, open_assembly(chance, 2, 3, 90)):
         script.want(assembly)
-        script.give(fitting(assembly, octets[:length - 12], MORE))
+        for length in (*range(13), 20, 63, 64, 65, 66, 71, 72, 73):
+            script.give(bytes([mframe.PREAMBLE]) * length)
+    for length in (1530, 1531, 1532, 2048):
+        script.give(bytes([mframe.PREAMBLE]) * length)
+    for preamble in PREAMBLES:
+        for delimiter in codes.DELIMITERS:
+            script.give(mframe.header(preamble, delimiter.code))
+            if delimiter.kind == codes.CONTINUATION:
+                script.give(mframe.header(preamble, delimiter.code, codes.fragment_code(delimiter.frame_count)))
+        for octets in ([0x00], [0x54], [0x61, 0x55], [0x2A, 0x00], [EXPRESS_CODE, 0x55], [0x00, 0x55]):
+            script.give(mframe.header(preamble, *octets))
 
 
-def preambles(script, chance):
-    """14: each of places 0 to 5 with other octets, among them delimiters, as in a shortened preamble."""
+def every_preamble(script, chance):
+    """From none to nine octets 55 before every delimiter, with every fragment code, good and bad, and damaged checks."""
+    data = chance.octets(60)
+    assembly = open_assembly(chance, 2, 1, 200)
+    for preamble in PREAMBLES:
+        mframes = [late(EXPRESS_CODE, data, DONE, preamble), late(VERIFY_CODE, data, MORE, preamble),
+                   late(RESPOND_CODE, data, MORE, preamble)]
+        mframes += [start(count, data, MORE, preamble) for count in range(4)]
+        mframes += [continuation(*counts, assembly.register, data, MORE, preamble)
+                    for counts in product(range(4), range(4))]
+        mframes += [late(code, data, DAMAGED, preamble)
+                    for code in (EXPRESS_CODE, VERIFY_CODE, RESPOND_CODE, codes.start_code(3))]
+        mframes += [start(0, data, DONE, preamble), fitting(assembly, data, DONE, preamble),
+                    fitting(assembly, data, DAMAGED, preamble)]
+        mframes += [late(code, data, DONE, preamble) for code in UNKNOWN_DELIMITERS]
+        mframes += [closed(mframe.header(preamble, codes.continuation_code(2), code), data, MORE, assembly.register)
+                    for code in UNKNOWN_FRAGMENT_CODES]
+        for octets in mframes:
+            script.want(assembly)
+            script.give(octets)
+
+
+def data_like_a_head(script, chance):
+    """Data that begin with octets 55, or as another head: the first delimiter ends the header, and nothing else does."""
+    assembly = open_assembly(chance, 1, 2, 70)
+    fronts = [mframe.header(count) for count in (1, 2, 7, 8, 60)]
+    fronts += [mframe.header(preamble, *behind) for preamble, behind in product(
+        (0, 2, 7), ((EXPRESS_CODE,), (codes.start_code(2),), (codes.continuation_code(1), codes.fragment_code(2))))]
+    for preamble, front in product((0, 1, 6, 7), fronts):
+        data = front + chance.octets(max(0, 60 - len(front)))
+        for octets in (late(EXPRESS_CODE, data, DONE, preamble), start(0, data, MORE, preamble),
+                       fitting(assembly, data, MORE, preamble)):
+            script.want(assembly)
+            script.give(octets)
+
+
+def other_octets_in_a_preamble(script, chance):
+    """Each of places 0 to 5 with other octets, among them delimiters: what was a preamble ends there."""
     data = chance.octets(60)
     assembly = open_assembly(chance, 2, 1, 200)
     for place in range(6):
@@ -176,31 +258,47 @@ def preambles(script, chance):
                            fitting(assembly, data, MORE)):
                 script.want(assembly)
                 script.give(octets[:place] + bytes([octet]) + octets[place + 1:])
-    # Octets of the preamble lost or too many, the rest being good.
+    # Octets lost from the front, the last of them not of the preamble any more, and octets 55 too many.
     for octets in (late(EXPRESS_CODE, data + data, DONE), fitting(assembly, data + data, MORE)):
-        for lost in range(1, 8):
+        for count in range(1, 10):
             script.want(assembly)
-            script.give(octets[lost:])
-            script.give(bytes([mframe.PREAMBLE]) * lost + octets)
+            script.give(octets[count:])
+            script.want(assembly)
+            script.give(bytes([mframe.PREAMBLE]) * count + octets)
 
 
-def late_delimiters(script, chance):
-    """All 256 octets at place 7 behind seven 55s."""
+def preambles_in_one_assembly(script, chance):
+    """A start and its continuation, each with any number of octets 55; then frames in more parts of all numbers."""
+    script.set_buffer(1530, 55)
+    for of_start, of_continuation in product(GOOD_PREAMBLES, GOOD_PREAMBLES):
+        script.want(NOT_ASSEMBLING)
+        script.give(start(of_start % 4, chance.octets(60), MORE, of_start))
+        script.give(fitting(script.record.assembly, chance.octets(61), DONE, of_continuation))
+    for preambles in (GOOD_PREAMBLES, reversed(GOOD_PREAMBLES), (7, 0, 7, 0, 7, 0)):
+        first, *others = preambles
+        script.want(NOT_ASSEMBLING)
+        script.give(start(3, chance.octets(62), MORE, first))
+        for preamble in others:
+            # E, V and R between them, shortened otherwise.
+            script.give(late(EXPRESS_CODE, chance.octets(60), DONE, 7 - preamble))
+            script.give(late(RESPOND_CODE, bytes(60), MORE, preamble))
+            script.give(fitting(script.record.assembly, chance.octets(63), MORE, preamble))
+        script.give(fitting(script.record.assembly, chance.octets(64), DONE, first))
+
+
+def delimiters(script, chance):
+    """All 256 octets behind some numbers of octets 55, as they stand and with an octet behind them that is a fragment
+    code, another delimiter, neither."""
     data = chance.octets(60)
-    for end in (DONE, MORE):
+    for preamble, end in ((7, DONE), (0, MORE)):
         for octet in range(256):
             script.want(NOT_ASSEMBLING)
-            script.give(late(octet, data, end))
-
-
-def early_delimiters(script, chance):
-    """All 256 octets at place 6, with octets at place 7 that are good as both, good as delimiter, good as neither."""
-    data = chance.octets(60)
+            script.give(late(octet, data, end, preamble))
     assembly = open_assembly(chance, 2, 0, 64)
-    for second in (0xE6, 0xD5, 0x00):
+    for preamble, second in ((6, 0xE6), (7, 0xE6), (3, 0x00)):
         for octet in range(256):
             script.want(assembly)
-            script.give(closed(mframe.early_header(octet, second), data, MORE, assembly.register))
+            script.give(closed(mframe.header(preamble, octet, second), data, MORE, assembly.register))
 
 
 def fragment_codes(script, chance):
@@ -222,26 +320,28 @@ def order_of_refusals(script, chance):
     """10 to 17 in all combinations that can be had, each also with a check that is not good."""
     good = open_assembly(chance, 1, 2, 300)
     bad = replace(good, kept=59)
-    headers = (
-        mframe.early_header(codes.continuation_code(1), codes.fragment_code(2)),
-        mframe.late_header(0xAD),
-        mframe.early_header(0xAD, EXPRESS_CODE),
-        mframe.late_header(codes.continuation_code(1)),
-        mframe.early_header(codes.start_code(1), codes.fragment_code(2)),
-        mframe.early_header(EXPRESS_CODE, 0x00),
-        mframe.early_header(codes.continuation_code(1), 0x55),
+    heads = (
+        (codes.continuation_code(1), codes.fragment_code(2)),
+        (EXPRESS_CODE,),
+        (0xAD,),
+        (codes.continuation_code(1), 0x55),
+        (codes.continuation_code(1), 0x00),
     )
     octets = chance.octets(2048)
     for short, wrong_record in product(YES_AND_NO, YES_AND_NO):
         script.set_buffer(1517 if short else 1518, 3)
-        for length, wrong_preamble, header, end in product((71, 72, 1531), YES_AND_NO, headers, (MORE, DAMAGED)):
+        for behind, preamble, head, end in product((63, 64, 1523), (1, 7, 8), heads, (MORE, DAMAGED)):
             # Long ones are asked more sparingly: they make the file large.
-            if length == 1531 and (end == DAMAGED or (short and wrong_record) or header not in headers[::2]):
+            if behind == 1523 and (end == DAMAGED or (short and wrong_record) or preamble == 1 or head == heads[-1]):
                 continue
-            if wrong_preamble:
-                header = header[:3] + b"\x54" + header[4:]
             script.want(bad if wrong_record else good)
-            script.give(closed(header, octets[:length - 12], end, good.register))
+            script.give(closed(mframe.header(preamble, *head), octets[:behind - 4], end, good.register))
+        # What ends in the head.
+        for octets_of_head in (mframe.header(0), mframe.header(7), mframe.header(8), mframe.header(0, 0x61),
+                               mframe.header(7, 0x61, 0x00), mframe.header(8, 0x61, 0xE6), mframe.header(0, 0x00),
+                               mframe.header(8, 0x00)):
+            script.want(bad if wrong_record else good)
+            script.give(octets_of_head)
     script.set_buffer(1518, 3)
 
 
@@ -361,11 +461,12 @@ def counters_going_round(script, chance):
     ]
     for open_or_not in (NOT_ASSEMBLING, assembly):
         ways += [(open_or_not, octets) for octets in (
-            late(0x00, data, DONE), closed(mframe.early_header(0x00, 0xE6), data, DONE),
-            late(codes.continuation_code(1), data, MORE), closed(mframe.early_header(0xD5, 0xE6), data, DONE),
+            late(0x00, data, DONE), late(0x00, data, DONE, 8), late(0x00, data, DONE, 0), b"", b"\x00",
             closed(mframe.early_header(codes.continuation_code(1), 0x00), data, MORE, assembly.register),
-            late(EXPRESS_CODE, data, DONE), late(EXPRESS_CODE, data, MORE), late(VERIFY_CODE, data, MORE),
-            late(RESPOND_CODE, data, DONE), data, bytes(72), bytes(1531))]
+            mframe.header(7, codes.continuation_code(1)), mframe.header(7, codes.continuation_code(1), 0x00),
+            late(EXPRESS_CODE, data, DONE), late(EXPRESS_CODE, data, MORE, 1), late(VERIFY_CODE, data, MORE),
+            late(RESPOND_CODE, data, DONE), late(EXPRESS_CODE, data, DONE, 8), late(EXPRESS_CODE, data[1:], DONE),
+            late(EXPRESS_CODE, bytes(1519), DONE))]
     ways.append((NOT_ASSEMBLING, fitting(assembly, data, MORE)))
     last = GREATEST_COUNT
     for open_or_not, octets in ways:
@@ -450,13 +551,30 @@ def damage_anywhere(script, chance):
             script.give(exchange.with_bit_turned(octets, 8 * place + (3 * place + len(octets)) % 8))
 
 
+def damage_in_a_shortened_head(script, chance):
+    """Every bit of every octet of a shortened head wrong: a preamble ends too early, or begins behind another octet."""
+    data = chance.octets(60)
+    assembly = open_assembly(chance, 1, 0, 64)
+    for octets, head in ((late(EXPRESS_CODE, data, DONE, 2), 3), (fitting(assembly, data, DONE, 1), 3),
+                         (start(1, data, MORE, 0), 1), (fitting(assembly, data, MORE, 7), 9)):
+        for place in range(8 * head):
+            script.want(assembly)
+            script.give(exchange.with_bit_turned(octets, place))
+
+
 def random_histories(script, chance):
-    """Long exchanges with loss, damage, doubling, overtaking and stray octets, from a fresh record."""
+    """Long exchanges with loss, damage, doubling, overtaking and stray octets, from a fresh record.
+
+    In all but one leading octets 55 are swallowed as well.
+    """
     for room, count, greatest_body, trouble in ((1518, 900, 600, 4), (1518, 800, 1518, 12), (2048, 550, 400, 30),
                                                 (1600, 550, 1518, 1)):
         script.set_buffer(room, count % 256)
         script.set_record()
-        for octets in exchange.over_a_noisy_row(exchange.sent_in_turn(chance, count, greatest_body), chance, trouble):
+        mframes = exchange.sent_in_turn(chance, count, greatest_body)
+        if count != 900:
+            mframes = exchange.swallowed(mframes, chance)
+        for octets in exchange.over_a_noisy_row(mframes, chance, trouble):
             script.give(octets)
 
 
@@ -474,9 +592,10 @@ def all_questions():
     chance = Chance(SEED)
     script.set_record()
     script.set_buffer(1518, 1)
-    for part in (every_answer, rooms, lengths, preambles, late_delimiters, early_delimiters, fragment_codes,
-                 order_of_refusals, records, running_checks, whole_checks, starts_over_an_open_assembly,
-                 drops_of_continuations, counters_going_round, many_fragments, losses, damage_anywhere,
+    for part in (every_answer, rooms, lengths, limits, ends_in_the_head, every_preamble, data_like_a_head,
+                 other_octets_in_a_preamble, delimiters, fragment_codes, order_of_refusals, records, running_checks,
+                 whole_checks, starts_over_an_open_assembly, drops_of_continuations, counters_going_round,
+                 many_fragments, preambles_in_one_assembly, losses, damage_anywhere, damage_in_a_shortened_head,
                  random_histories, four_lost_in_a_row):
         part(script, chance)
     return script.questions
