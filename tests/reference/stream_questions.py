@@ -1,4 +1,4 @@
-"""The questions asked about document 02's request (iv), the octets that come one at a time.
+"""The questions asked about document 02's request (iv), the octets that come one at a time, with the limit of (vi).
 
 Answers are not looked at here. Only what is kept is followed with the reference, so that it is set anew where a
 question needs another state or record. mFrames are put together as for the receiving questions.
@@ -14,8 +14,9 @@ from chance import Chance
 from octet_by_octet import END, MOST_OCTETS, State
 from reader import LONGEST_RUN, lent_memory
 from receive_format import buffer_question, record_question
-from receive_questions import (DAMAGED, DONE, EXPRESS_CODE, MORE, RESPOND_CODE, VERIFY_CODE, YES_AND_NO, closed,
-                               continuation, each_kind, fitting, late, of_length, open_assembly, start)
+from receive_questions import (DAMAGED, DONE, EXPRESS_CODE, GOOD_PREAMBLES, MORE, PREAMBLES, RESPOND_CODE, VERIFY_CODE,
+                               YES_AND_NO, closed, continuation, each_kind, fitting, late, of_length, open_assembly,
+                               start)
 from receiving import LEAST_ROOM, NOT_ASSEMBLING, Counters, ReceivingRecord
 from stream_answers import Answering
 from stream_format import area_question, end_question, octets_question, state_question
@@ -86,9 +87,24 @@ class Script:
         return bytes([(self.kept.area[place] + 100) % 256])
 
 
-def longest_mframe(chance):
-    """E of as many octets as an mFrame can have."""
+# Heads with which an mFrame is refused, however long it is: too many octets 55, unknown delimiters, unknown fragment codes.
+REFUSED_HEADS = (mframe.header(8, EXPRESS_CODE), mframe.header(9, 0x00), mframe.header(MOST_OCTETS),
+                 mframe.header(7, 0xAD), mframe.header(0, 0x00), mframe.header(3, 0x54),
+                 mframe.header(7, codes.continuation_code(0), 0x00), mframe.header(0, codes.continuation_code(3), 0x55))
+
+# Heads with which one is only too long.
+OTHER_HEADS = (mframe.header(7, EXPRESS_CODE), mframe.header(0, codes.start_code(1)), mframe.header(0, RESPOND_CODE),
+               mframe.header(7, codes.continuation_code(0), codes.fragment_code(0)))
+
+
+def longest_express(chance):
+    """E of as many octets as E can have: one fewer than there are places."""
     return late(EXPRESS_CODE, chance.octets(mframe.GREATEST_BODY), DONE)
+
+
+def longest_mframe(chance, assembly=NOT_ASSEMBLING):
+    """C behind seven octets 55 with as many octets as an mFrame can have. It is always dropped: nothing has room for it."""
+    return fitting(assembly, chance.octets(mframe.GREATEST_BODY), MORE, preamble=7)
 
 
 def areas_and_counts(script, chance):
@@ -134,16 +150,31 @@ def refused_and_dropped(chance, assembly):
     other_count = (assembly.next_fragment_count + 1) % 4
     return [
         express[:71],
+        express[7:71],
+        mframe.header(7),
+        mframe.header(8),
+        mframe.header(0, delimiter),
         express[:5] + b"\x54" + express[6:],
+        late(EXPRESS_CODE, data, DONE, 8),
+        fitting(assembly, data, MORE, 9),
         late(0xAD, data, DONE),
         closed(mframe.early_header(0x00, EXPRESS_CODE), data, DONE),
-        late(delimiter, data, MORE),
-        closed(mframe.early_header(EXPRESS_CODE, codes.fragment_code(0)), data, DONE),
-        closed(mframe.early_header(delimiter, 0x55), data, MORE, assembly.register),
-        closed(mframe.early_header(delimiter, 0x00), data, DONE, assembly.register),
+        closed(mframe.header(7, delimiter, 0x55), data, MORE, assembly.register),
+        closed(mframe.header(0, delimiter, 0x00), data, DONE, assembly.register),
         continuation(assembly.frame_count, other_count, assembly.register, data, MORE),
         fitting(assembly, chance.octets(mframe.GREATEST_BODY - 59), MORE),
     ]
+
+
+def shortened_kinds(chance, assembly):
+    """mFrames of each kind behind every number of octets 55, the kinds in turn; the continuations go on from `assembly`."""
+    data = chance.octets(60)
+    return [kind(preamble) for preamble in GOOD_PREAMBLES for number, kind in enumerate((
+        lambda preamble: late(EXPRESS_CODE, data, DONE, preamble),
+        lambda preamble: fitting(assembly, data, DONE, preamble),
+        lambda preamble: start(preamble % 4, data, MORE, preamble),
+        lambda preamble: late(VERIFY_CODE, data, MORE, preamble),
+    )) if (preamble + number) % 2 == 0]
 
 
 def every_answer(script, chance):
@@ -152,7 +183,8 @@ def every_answer(script, chance):
         script.set_area(area, 5)
         script.set_buffer(room, 250)
         for assembly in (NOT_ASSEMBLING, open_assembly(chance, 3, 2, 60)):
-            for octets in each_kind(chance, assembly) + refused_and_dropped(chance, assembly):
+            for octets in (each_kind(chance, assembly) + shortened_kinds(chance, assembly)
+                           + refused_and_dropped(chance, assembly)):
                 script.want(assembly)
                 script.mframe(octets)
     # 24 at both sides.
@@ -173,9 +205,9 @@ def one_octet_a_question(script, chance):
     first, last = exchange.Sender().frame(chance.octets(130), 0)
     for octets in (first, late(EXPRESS_CODE, chance.octets(61), DONE), last):
         script.mframe(octets, 1)
-    for octets in (longest_mframe(chance), start(1, chance.octets(1518), DONE)):
+    for octets in (longest_express(chance), longest_mframe(chance), start(1, chance.octets(1518), DONE)):
         for behind in (-1, 0, 1, 5):
-            whole = (octets + bytes(5))[:MOST_OCTETS + behind]
+            whole = (octets + bytes(6))[:MOST_OCTETS + behind]
             script.give(whole[:1520])
             script.mframe(whole[1520:], 1)
 
@@ -191,10 +223,18 @@ def lengths(script, chance):
     for code, end in ((codes.start_code(2), MORE), (codes.start_code(3), DONE), (VERIFY_CODE, MORE)):
         for length in (71, 72, 1530, 1531):
             script.mframe(of_length(mframe.late_header(code), length, octets, end))
-    for length in (71, 72, 1529, 1530, 1531):
+    for length in (71, 72, 1530, 1531):
         assembly = open_assembly(chance, 1, 3, 60)
         script.want(assembly)
         script.mframe(fitting(assembly, octets[:length - 12], DONE))
+    # The same behind the shortest header and behind the longest.
+    script.want(NOT_ASSEMBLING)
+    for length in (1, 63, 64, 65, 66, 1523, 1524):
+        script.mframe(of_length(mframe.header(0, EXPRESS_CODE), length, octets, DONE))
+    for length in (72, 73, 1530, 1531, 1532):
+        assembly = open_assembly(chance, 1, 3, 60)
+        script.want(assembly)
+        script.mframe(fitting(assembly, octets[:length - 13], DONE, preamble=7))
 
 
 def octets_beyond(script, chance):
@@ -202,6 +242,9 @@ def octets_beyond(script, chance):
     script.set_area(LONGEST_RUN, 60)
     script.want(NOT_ASSEMBLING)
     longest = longest_mframe(chance)
+    for beyond in (b"\x55", b"\x55\x55", chance.octets(3)):
+        # The first of these has the last place.
+        script.mframe(longest_express(chance) + beyond)
     for beyond in (longest[-1:], b"\x55", b"\x00\x00", chance.octets(400), late(EXPRESS_CODE, bytes(60), DONE)):
         script.give(longest)
         script.mframe(beyond)
@@ -210,6 +253,44 @@ def octets_beyond(script, chance):
     # Two ends that were not noticed: far more octets than there are places for.
     script.mframe(longest[:1000] + longest[:1000] + longest)
     script.mframe(longest)
+
+
+def heads_of_over_long_ones(script, chance):
+    """More octets than there are places for: the head decides all the same, and 13 only where nothing is wrong in it.
+
+    Mostly the head is given and the state set by hand, as long runs make the file large.
+    """
+    good = open_assembly(chance, 0, 0, 80)
+    script.set_area(MOST_OCTETS, 33)
+    for room, assembly in ((LEAST_ROOM, NOT_ASSEMBLING), (LEAST_ROOM, good), (LEAST_ROOM - 1, good),
+                           (LEAST_ROOM, replace(good, kept=59))):
+        script.set_buffer(room, 12)
+        for head in REFUSED_HEADS + OTHER_HEADS:
+            for count, more in ((len(head), False), (MOST_OCTETS - 1, False), (MOST_OCTETS, False), (MOST_OCTETS, True)):
+                script.want(assembly)
+                script.set_state(0)
+                script.give(head)
+                script.set_state(count, more)
+                script.end()
+    script.set_buffer(LEAST_ROOM, 12)
+    script.want(good)
+    for head in REFUSED_HEADS:
+        script.mframe((head + bytes(MOST_OCTETS + 1))[:MOST_OCTETS + 1])
+        script.mframe(late(VERIFY_CODE, bytes(60), MORE, 3))
+    # Octets 55 that fill the area; behind them a good mFrame, none of which has a place.
+    script.mframe(mframe.header(MOST_OCTETS) + late(EXPRESS_CODE, bytes(60), DONE))
+    script.mframe(mframe.header(MOST_OCTETS - 4) + late(EXPRESS_CODE, bytes(60), DONE))
+
+
+def ends_in_the_head(script, chance):
+    """The octets end in each place of the head, and a good mFrame follows each time."""
+    for assembly in (NOT_ASSEMBLING, open_assembly(chance, 3, 0, 100)):
+        for preamble in PREAMBLES:
+            for behind in ((), (EXPRESS_CODE,), (0x54,), (codes.continuation_code(3),),
+                           (codes.continuation_code(3), codes.fragment_code(0)), (codes.continuation_code(3), 0x55)):
+                script.want(assembly)
+                script.mframe(mframe.header(preamble, *behind))
+        script.mframe(late(EXPRESS_CODE, chance.octets(60), DONE, 0))
 
 
 def ends_without_octets(script, chance):
@@ -231,7 +312,7 @@ def refused_only_at_the_end(script, chance):
     assemblies = (good, replace(good, kept=1519), replace(good, assembling=False))
     refused = [pair for pair in product((LEAST_ROOM, LEAST_ROOM - 1, 0), assemblies) if pair != (LEAST_ROOM, good)]
     express = late(EXPRESS_CODE, chance.octets(60), DONE)
-    longest = longest_mframe(chance)
+    longest = longest_mframe(chance, good)
     for number, (room, assembly) in enumerate(refused):
         # The longest with one octet too many and without it in turn, as long ones make the file large.
         for octets in (b"", b"\x55", express[:71], express, longest + bytes(number % 2)):
@@ -281,9 +362,9 @@ def states_set_by_hand(script, chance):
     script.want(NOT_ASSEMBLING)
     longest = longest_mframe(chance)
     short = late(EXPRESS_CODE, chance.octets(60), DONE)
-    for octets in (short, longest):
+    for octets in (short, short[7:], longest_express(chance), longest):
         script.mframe(octets)
-        for count in (0, 71, 72, 73, MOST_OCTETS - 1, MOST_OCTETS):
+        for count in (0, 1, 64, 65, 66, 71, 72, 73, MOST_OCTETS - 1, MOST_OCTETS):
             script.set_state(count)
             script.end()
         script.set_state(MOST_OCTETS, True)
@@ -315,7 +396,7 @@ def frames_in_fragments(script, chance):
     for length, ask in ((1518, 0), (700, 70), (1518, 1458), (60, 0)):
         for octets in sender.frame(chance.octets(length), ask):
             script.mframe(octets, 100)
-    for number, octets in enumerate(sender.frame(chance.octets(600), 0)):
+    for number, octets in enumerate(exchange.swallowed(sender.frame(chance.octets(600), 0), chance)):
         script.mframe(octets, 60)
         script.mframe(mframe.express(chance.octets(60 + number)))
         script.mframe(late(RESPOND_CODE if number % 2 else VERIFY_CODE, bytes(60), (MORE, MORE, DAMAGED)[number % 3]))
@@ -350,14 +431,20 @@ def ends_out_of_place(script, chance, octets):
 
 
 def histories(script, chance):
-    """Long exchanges with loss, damage and stray octets, from an empty state and a fresh record."""
-    for area, room, count, greatest_body, trouble in ((1530, 1518, 500, 600, 4), (1700, 1600, 400, 1518, 15),
-                                                      (1531, 1519, 400, 400, 40), (1530, 1518, 300, 1518, 1)):
+    """Long exchanges with loss, damage and stray octets, from an empty state and a fresh record.
+
+    In all but the last leading octets 55 are swallowed as well.
+    """
+    for area, room, count, greatest_body, trouble in ((1531, 1518, 500, 600, 4), (1700, 1600, 400, 1518, 15),
+                                                      (1532, 1519, 400, 400, 40), (1531, 1518, 300, 1518, 1)):
         script.set_area(area, count % 256)
         script.set_buffer(room, count % 251)
         script.set_record()
         script.set_state(0)
-        for octets in exchange.over_a_noisy_row(exchange.sent_in_turn(chance, count, greatest_body), chance, trouble):
+        mframes = exchange.sent_in_turn(chance, count, greatest_body)
+        if trouble > 1:
+            mframes = exchange.swallowed(mframes, chance)
+        for octets in exchange.over_a_noisy_row(mframes, chance, trouble):
             ends_out_of_place(script, chance, octets)
         script.end()
 
@@ -396,8 +483,8 @@ def all_questions():
     script.set_buffer(LEAST_ROOM, 1)
     script.set_area(MOST_OCTETS, 2)
     script.set_state(0)
-    for part in (areas_and_counts, every_answer, one_octet_a_question, ends_without_octets, refused_only_at_the_end,
-                 interrupted, states_set_by_hand, octets_beyond, lengths, every_count, frames_in_fragments,
-                 random_settings, histories):
+    for part in (areas_and_counts, every_answer, one_octet_a_question, ends_in_the_head, ends_without_octets,
+                 refused_only_at_the_end, interrupted, states_set_by_hand, octets_beyond, heads_of_over_long_ones,
+                 lengths, every_count, frames_in_fragments, random_settings, histories):
         part(script, chance)
     return script.questions

@@ -1,4 +1,4 @@
-"""Receivers of single octets that are wrong in one rule of document 02's request (iv) each.
+"""Receivers of single octets that are wrong in one rule of document 02's request (iv), with the limit of (vi), each.
 
 Each is a patch of octet_by_octet.py. The stored questions must tell every one of them from the right one.
 """
@@ -9,7 +9,8 @@ from unittest import mock
 import octet_by_octet
 import receiving
 from octet_by_octet import AREA_SHORT, EMPTY, END, MOST_OCTETS, REFUSALS, STATE_UNSOUND, State
-from receiving import BUFFER_SHORT, MFRAME_LONG, MFRAME_SHORT, RECORD_OUT_OF_RANGE, Answer
+from receiving import (BUFFER_SHORT, DELIMITER_UNKNOWN, FRAGMENT_CODE_UNKNOWN, MFRAME_LONG, MFRAME_SHORT, PREAMBLE_LONG,
+                       RECORD_OUT_OF_RANGE, Answer)
 
 RIGHT_CALL = octet_by_octet.call
 AFTER_AN_OCTET = octet_by_octet.after_an_octet
@@ -35,17 +36,17 @@ def in_place_of_19(test):
 
 # Wrong in what they refuse.
 LIMITS = {
-    "an area of 1,529 octets is enough": in_place_of_18(lambda area, _: len(area) < MOST_OCTETS - 1),
-    "an area of 1,530 octets is too short": in_place_of_18(lambda area, _: len(area) <= MOST_OCTETS),
-    "an area must have 1,530 octets exactly": in_place_of_18(lambda area, _: len(area) != MOST_OCTETS),
+    "an area of 1,530 octets is enough": in_place_of_18(lambda area, _: len(area) < MOST_OCTETS - 1),
+    "an area of 1,531 octets is too short": in_place_of_18(lambda area, _: len(area) <= MOST_OCTETS),
+    "an area must have 1,531 octets exactly": in_place_of_18(lambda area, _: len(area) != MOST_OCTETS),
     "an area needs a place for the next octet alone": in_place_of_18(lambda area, state: len(area) <= state.count),
     "an area is too short only where there is none": in_place_of_18(lambda area, _: len(area) == 0),
     "no area is too short": in_place_of_18(lambda *_: False),
-    "a count of 1,531 is sound": in_place_of_19(
+    "a count of 1,532 is sound": in_place_of_19(
         lambda count, more: count > MOST_OCTETS + 1 or (more and count < MOST_OCTETS)),
-    "a count of 1,530 is unsound": in_place_of_19(
+    "a count of 1,531 is unsound": in_place_of_19(
         lambda count, more: count >= MOST_OCTETS or (more and count < MOST_OCTETS)),
-    "a count of 1,530 is sound with more alone": in_place_of_19(
+    "a count of 1,531 is sound with more alone": in_place_of_19(
         lambda count, more: count > MOST_OCTETS or more != (count == MOST_OCTETS)),
     "any count is sound": in_place_of_19(lambda count, more: more and count < MOST_OCTETS),
     "any count is sound with more": in_place_of_19(
@@ -56,12 +57,15 @@ LIMITS = {
     "a count from 2^31 on is below 0": in_place_of_19(
         lambda count, more: MOST_OCTETS < count < 2**31 or (more and count < MOST_OCTETS)),
     "more is sound at any count": in_place_of_19(lambda count, _: count > MOST_OCTETS),
-    "more is sound at 1,529": in_place_of_19(
+    "more is sound at 1,530": in_place_of_19(
         lambda count, more: count > MOST_OCTETS or (more and count < MOST_OCTETS - 1)),
     "more is sound where nothing is counted": in_place_of_19(
         lambda count, more: count > MOST_OCTETS or (more and 0 < count < MOST_OCTETS)),
     "more is unsound at any count": in_place_of_19(lambda count, more: more or count > MOST_OCTETS),
     "19 before 18": replaced("REFUSALS", REFUSALS[::-1]),
+    # Area, count and more alike, as before preambles were shortened.
+    "1,530 octets are the most": replaced("MOST_OCTETS", MOST_OCTETS - 1),
+    "1,532 octets are the most": replaced("MOST_OCTETS", MOST_OCTETS + 1),
 }
 
 
@@ -207,16 +211,16 @@ def places_behind_cleared(_octet, _state, after, area):
 
 # Wrong in what they do with an octet.
 OCTETS = {
-    "octets beyond 1,530 are counted": waiting_with(
+    "octets beyond 1,531 are counted": waiting_with(
         lambda _octet, state, after, _area: State(state.count + 1, after.more)),
     "that there were more is forgotten": waiting_with(lambda _octet, _state, after, _area: State(after.count, False)),
     "the next octet clears that there were more": waiting_with(
         lambda _octet, state, after, _area: State(after.count, after.more and not state.more)),
-    "the 1,530th octet counts as more": waiting_with(
+    "the 1,531th octet counts as more": waiting_with(
         lambda _octet, _state, after, _area: State(after.count, after.count == MOST_OCTETS)),
-    "the 1,530th octet has no place": waiting_with(
+    "the 1,531th octet has no place": waiting_with(
         lambda _octet, state, after, _area: State(state.count, True) if after.count == MOST_OCTETS else after),
-    "the count begins anew beyond 1,530": waiting_with(
+    "the count begins anew beyond 1,531": waiting_with(
         lambda _octet, state, after, _area: State(0, False) if state.count == MOST_OCTETS else after),
     "an octet is written one place late": written_at(lambda count: count + 1),
     "an octet is written one place early": written_at(lambda count: count - 1),
@@ -267,6 +271,29 @@ def answered_before(number, applies):
     return replaced("call", call)
 
 
+def long_before(*numbers):
+    """Where there were more, 13 comes before these numbers."""
+    def call(given, state, area, record, memory):
+        answer, after, after_it = RIGHT_CALL(given, state, area, record, memory)
+        if given == END and state.more and answer.number in numbers:
+            return Answer(MFRAME_LONG), after, record
+        return answer, after, after_it
+    return replaced("call", call)
+
+
+def bits_forgotten(given, state, area, record, memory):
+    """Where there were more, an unknown delimiter is answered without its bits."""
+    answer, after, record = RIGHT_CALL(given, state, area, record, memory)
+    is_unknown = given == END and state.more and answer.number == DELIMITER_UNKNOWN
+    return (Answer(DELIMITER_UNKNOWN) if is_unknown else answer), after, record
+
+
+def not_counted_with_more(given, state, area, record, memory):
+    """Where there were more, nothing counts as a delimiter error."""
+    answer, after, after_it = RIGHT_CALL(given, state, area, record, memory)
+    return answer, after, (record if given == END and state.more else after_it)
+
+
 def record_handed_back(given, state, area, record, memory):
     answer, after, _ = RIGHT_CALL(given, state, area, record, memory)
     return answer, after, record
@@ -282,9 +309,9 @@ ENDS = {
     "the count is kept after an end": ending_with(lambda _number, state, _area: State(state.count, False)),
     "more is kept after an end": ending_with(lambda _number, state, _area: State(0, state.more)),
     **{f"the state is kept after {number}": state_kept_after(number)
-       for number in (*range(5), *range(10, 18), *range(20, 26))},
+       for number in (*range(5), *range(10, 16), 17, *range(20, 26))},
     "the state is kept after 10 and 11": state_kept_after(BUFFER_SHORT, RECORD_OUT_OF_RANGE),
-    "13 on exactly 1,530 octets": asking_about(
+    "13 on exactly 1,531 octets": asking_about(
         lambda count, _more, area: area[:count] + bytes(count == MOST_OCTETS)),
     "more is not looked at": asking_about(lambda count, _more, area: area[:count]),
     "more alone is looked at": asking_about(lambda count, more, area: bytes(MOST_OCTETS + 1) if more else area),
@@ -294,6 +321,22 @@ ENDS = {
         lambda count, more, area: area[:min(count + 1, MOST_OCTETS)] + bytes(more)),
     "12 before 10 and 11 where nothing came": answered_before(MFRAME_SHORT, lambda state: state.count == 0),
     "13 before 10 and 11": answered_before(MFRAME_LONG, lambda state: state.more),
+    "13 before 10 where there were more": long_before(BUFFER_SHORT),
+    "13 before 11 where there were more": long_before(RECORD_OUT_OF_RANGE),
+    "13 before 14 where there were more": long_before(PREAMBLE_LONG),
+    "13 before 15 where there were more": long_before(DELIMITER_UNKNOWN),
+    "13 before 17 where there were more": long_before(FRAGMENT_CODE_UNKNOWN),
+    "13 whatever the head, where there were more": long_before(
+        PREAMBLE_LONG, DELIMITER_UNKNOWN, FRAGMENT_CODE_UNKNOWN),
+    "15 without its bits where there were more": replaced("call", bits_forgotten),
+    "15 and 17 do not count where there were more": replaced("call", not_counted_with_more),
+    "the head alone is asked about where there were more": asking_about(
+        lambda count, more, area: area[:9] if more else area[:count]),
+    "what is beyond stands before the rest": asking_about(lambda count, more, area: bytes(more) + area[:count]),
+    "what is beyond is an octet 55 before the rest": asking_about(
+        lambda count, more, area: b"\x55" * more + area[:count]),
+    "1,530 octets are asked about at most, and one for more": asking_about(
+        lambda count, more, area: area[:min(count, 1530)] + bytes(more)),
     "all of the area is cleared at an end": area_cleared(lambda _count, room: room),
     "the octets that came are cleared at an end": area_cleared(lambda count, _room: count),
     "the first octet is cleared at an end": area_cleared(lambda _count, _room: 1),
