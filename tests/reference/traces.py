@@ -1,4 +1,4 @@
-"""Makes the stored traces and their listings: document 01, "Trace and listing".
+"""Makes the stored traces and their listings: document 01, "Trace and listing", with the heads of document 02, (vi).
 
     python3 tests/reference/traces.py            writes all files
     python3 tests/reference/traces.py --check    writes nothing, compares
@@ -47,7 +47,7 @@ def row():
     # Now the noise: a start is hit in its delimiter, so that its fragments belong to nothing.
     parts = sender.frame(chance.octets(300), 0)
     mframes += [with_bit_turned(parts[0], 57), *parts[1:]]
-    # A fragment code is hit, then the data of a fragment, then its preamble.
+    # A fragment code is hit, then the data of a fragment, then its preamble, which ends where it is hit.
     parts = sender.frame(chance.octets(300), 0)
     mframes += [parts[0], with_bit_turned(parts[1], 58), *parts[2:]]
     parts = sender.frame(chance.octets(260), 0)
@@ -57,8 +57,8 @@ def row():
     # The port still waits for that fragment when the next frame starts. A press is hit, and sent again.
     mframes += sender.frame(chance.octets(61))
     mframes += [with_bit_turned(press(5), 8 * 12 + 1), press(5)]
-    # A press that lost an octet of its preamble, and a piece of one.
-    mframes += [press(6)[1:] + b"\x00", press(6)[40:]]
+    # A press that lost an octet of its preamble is delivered all the same; a piece of one is not.
+    mframes += [press(6)[1:], press(6)[40:]]
     # The verification is repeated; the first V is hit.
     mframes += [with_bit_turned(mframe.verify(), 8 * 70), mframe.verify(), mframe.respond()]
     mframes += sender.frame(chance.octets(200), 64)
@@ -66,21 +66,21 @@ def row():
 
 
 def every_answer(chance):
-    """mFrames that are answered 0 to 4, 12 to 17 and 20 to 25; 10 and 11 cannot be had from a listing."""
+    """mFrames that are answered 0 to 4, 12 to 15, 17 and 20 to 25; 10 and 11 cannot be had from a listing."""
     data = chance.octets(60)
     fcs, mcrc = crc.fcs(data), crc.mcrc(data)
     first, second, third = exchange.Sender().frame(chance.octets(200), 0)
     full = chance.octets(1518)
     too_much = chance.octets(1519)
-    late, early = mframe.late_header, mframe.early_header
+    header, late, early = mframe.header, mframe.late_header, mframe.early_header
     return [
         # 0, 1 of one mFrame, 2, 2 and 1 of three, 3, 4.
         mframe.express(data), mframe.start(1, data, fcs), first, second, third, mframe.verify(), mframe.respond(),
         # 12 twice, 13, 14.
-        b"", bytes(71), late(0xD5) + too_much + crc.fcs(too_much), bytes(6) + b"\x55\xD5" + data + fcs,
-        # 15 at place 7 twice and at place 6; 16 at place 7 and at place 6; 17.
-        late(0xAD) + data + fcs, late(0x55) + data + fcs, early(0xD4, 0xD5) + data + fcs,
-        late(0x2A) + data + mcrc, early(0xD5, 0xE6) + data + fcs, early(0x2A, 0x2A) + data + mcrc,
+        b"", late(0xD5) + bytes(63), late(0xD5) + too_much + crc.fcs(too_much), header(8, 0xD5) + data + fcs,
+        # 15 at place 7 twice and at place 6; C at place 7, E at place 6; 17.
+        late(0xAD) + data + fcs, late(0x54) + data + fcs, early(0xD4, 0xD5) + data + fcs,
+        header(7, 0x2A, 0xE6) + data + mcrc, header(6, 0xD5) + data + fcs, early(0x2A, 0x2A) + data + mcrc,
         # 20 and 21 with the other's check; 22.
         late(0xD5) + data + mcrc, late(0x07) + data + fcs, late(0x19) + data + fcs, second,
         # 23 by the fragment count, after which the right one is 22; 23 by the frame count.
@@ -184,11 +184,78 @@ def checks_begun_anew(chance):
     return mframes + [first, second, third]
 
 
+def every_preamble(chance):
+    """Behind none to nine octets 55: E, V, R, a frame in one mFrame and one in two, and an unknown delimiter near 55 or E.
+
+    Then frames in parts of different numbers.
+    """
+    body = chance.octets(120)
+    fcs, mcrc = crc.fcs(body[:60]), crc.mcrc(body[:60])
+    mframes = []
+    for preamble in range(10):
+        mframes += [mframe.header(preamble, code) + body[:60] + check
+                    for code, check in ((0xD5, fcs), (0x07, mcrc), (0x19, mcrc), (0xE6, fcs), (0x4C, mcrc))]
+        mframes += [mframe.header(preamble, 0x52, 0xE6) + body[60:] + crc.fcs(body),
+                    mframe.header(preamble, (0xD4, 0x54)[preamble % 2]) + body[:60] + fcs]
+    for left in ((7, 0, 3, 6, 1), (0, 6, 5, 0, 4)):
+        mframes += [octets[-len(octets.lstrip(exchange.LEADING)) - preamble:] for octets, preamble in zip(
+            exchange.Sender(next_frame_count=2).frame(chance.octets(300), 0), left)]
+    return mframes
+
+
+def ends_in_the_head():
+    """Octets 55 alone, then delimiters with nothing behind them, and continuations without and with a fragment code."""
+    mframes = [mframe.header(preamble) for preamble in (0, 1, 6, 7, 8, 9, 72, 1600)]
+    for preamble in (0, 3, 6, 7, 8):
+        mframes += [mframe.header(preamble, *behind) for behind in (
+            (0xD5,), (0xE6,), (0x00,), (0x61,), (0x61, 0xE6), (0x61, 0x55))]
+    return mframes
+
+
+def limits_behind_the_header(chance):
+    """63 and 64, 1,522 and 1,523 octets behind headers of 1 to 9 octets, the checks being right; C behind its start."""
+    first = chance.octets(60)
+    mframes = []
+    for behind in (63, 64, 1522, 1523):
+        data = chance.octets(behind - crc.CHECK_OCTETS)
+        for preamble in range(8) if behind < 1000 else (0, 6, 7):
+            mframes += [mframe.header(preamble, 0xD5) + data + crc.fcs(data),
+                        mframe.header(7 - preamble, 0xB3) + first + crc.mcrc(first),
+                        mframe.header(preamble, 0x2A, 0xE6) + data + crc.fcs(first + data)]
+    return mframes
+
+
+def refusals_that_meet(chance):
+    """Heads to which two of 14, 15, 17, 12 and 13 apply: the first in this order answers."""
+    heads = (mframe.header(8, 0xD5), mframe.header(8, 0x00), mframe.header(8, 0x61, 0x00), mframe.header(7, 0x57),
+             mframe.header(0, 0xAD), mframe.header(7, 0x61, 0x55), mframe.header(0, 0x2A, 0xD5))
+    return [head + chance.octets(behind) for behind in (0, 1, 63, 64, 1523, 1590) for head in heads]
+
+
+def data_like_a_head(chance):
+    """Data that begin with octets 55 or with delimiters, in E, in a start and in its continuation."""
+    mframes = []
+    for front in (b"\x55", b"\x55" * 8, b"\xD5", b"\x55\x55\xD5", b"\x61\xE6", b"\xE6"):
+        data = (front + chance.octets(60))[:60]
+        for preamble in (0, 5):
+            mframes += [mframe.header(preamble, 0xD5) + data + crc.fcs(data),
+                        mframe.header(preamble, 0x7F) + data + crc.mcrc(data),
+                        mframe.header(preamble, 0x9E, 0xE6) + data + crc.fcs(data + data)]
+    return mframes
+
+
+def shortened_preambles():
+    """What document 02, (vi) brought: heads of every length, and what is refused of them."""
+    chance = Chance(SEED + 5)
+    return (every_preamble(chance) + ends_in_the_head() + limits_behind_the_header(chance)
+            + refusals_that_meet(chance) + data_like_a_head(chance))
+
+
 def answers():
     chance, more = Chance(SEED + 1), Chance(SEED + 4)
     return trace.written(every_answer(chance) + damage_in_every_field(chance) + every_refused_length(chance)
                          + verification_with_any_data(more) + drops_that_meet(more) + at_the_limit(more)
-                         + checks_begun_anew(more))
+                         + checks_begun_anew(more) + shortened_preambles())
 
 
 def small_parts(chance, count):
@@ -215,15 +282,26 @@ def small_parts(chance, count):
     return mframes
 
 
+def piece_of_noise(chance):
+    """Mostly a few octets, some of them as a head begins; seldom one that is longer than any mFrame."""
+    if chance.below(250) == 0:
+        head = mframe.header(chance.below(8), 0xD5) if chance.below(2) == 0 else b""
+        return head + chance.octets(chance.between(1531, 1600) - len(head))
+    which = chance.below(3)
+    if which == 0:
+        return mframe.header(chance.below(10), *[(), (0xD5,), (0xE6,), (0x61,)][chance.below(4)])
+    return mframe.header(chance.below(3)) + chance.octets(chance.below(40))
+
+
 def long():
-    """20,000 records: a long exchange with loss and damage, and pieces of noise in great number."""
+    """20,000 records: a long exchange with loss, damage and shortened preambles, and pieces of noise in great number."""
     chance = Chance(SEED + 2)
     mframes = []
-    for octets in exchange.over_a_noisy_row(small_parts(chance, LONG_TRACE_RECORDS), chance, 7):
+    sent = exchange.swallowed(small_parts(chance, LONG_TRACE_RECORDS), chance)
+    for octets in exchange.over_a_noisy_row(sent, chance, 7):
         mframes.append(octets)
         if chance.below(7) == 0:
-            # Mostly short pieces, seldom one that is longer than any mFrame.
-            mframes.append(chance.octets(chance.below(40) if chance.below(250) else chance.between(1531, 1600)))
+            mframes.append(piece_of_noise(chance))
     return trace.written(mframes[:LONG_TRACE_RECORDS])
 
 
