@@ -39,6 +39,31 @@ class Noise(unittest.TestCase):
         known = [places[octets] for octets in mframes if octets in places]
         self.assertGreater(sum(left > right for left, right in zip(known, known[1:])), 5)
 
+    def test_leading_octets_are_swallowed_and_no_others(self):
+        mframes = exchange.sent_in_turn(Chance(66), 400, 500)
+        left = exchange.swallowed(mframes, Chance(67))
+        numbers = {"late": set(), "early": set()}
+        for octets, rest in zip(mframes, left, strict=True):
+            self.assertTrue(octets.endswith(rest))
+            lost = octets[:len(octets) - len(rest)]
+            self.assertEqual(lost.count(0x55), len(lost))
+            numbers["early" if octets[6] != 0x55 else "late"].add(len(lost))
+        # All numbers are met: none is lost, some are, all are.
+        self.assertEqual(numbers, {"late": set(range(8)), "early": set(range(7))})
+
+    def test_leading(self):
+        for octets, count in ((b"", 0), (b"\x55", 1), (b"\x55\x55\xD5\x55", 2), (b"\xD5\x55", 0)):
+            self.assertEqual(exchange.leading(octets), count)
+
+    def test_damage_in_a_shortened_head(self):
+        # Bits are turned in delimiter and fragment code wherever they stand, the octets behind being zeros.
+        chance = Chance(68)
+        for preamble in range(8):
+            octets = mframe.header(preamble, 0x61, 0xE6) + bytes(1000)
+            altered = [exchange.damaged(octets, chance) for _ in range(200)]
+            heads = {one[:preamble + 2] for one in altered if len(one) == len(octets) and not any(one[preamble + 2:])}
+            self.assertGreater(len({head for head in heads if head[:preamble] == octets[:preamble]}), 5)
+
     def test_damage_is_mostly_seen(self):
         chance = Chance(65)
         octets = mframe.express(chance.octets(100))

@@ -20,10 +20,19 @@ def mcrc(octets):
 class Limits(unittest.TestCase):
     def test_lengths(self):
         self.assertEqual((mframe.LEAST_BODY, mframe.GREATEST_BODY), (60, 1518))
-        self.assertEqual((mframe.LEAST_MFRAME, mframe.GREATEST_MFRAME), (72, 1530))
+        self.assertEqual((mframe.LEAST_BEHIND_HEADER, mframe.GREATEST_BEHIND_HEADER), (64, 1522))
+        # The sender's own greatest, and what a receiver accepts.
+        self.assertEqual(mframe.LONGEST_SENT, 1530)
+        self.assertEqual((mframe.SHORTEST_ACCEPTED, mframe.LONGEST_ACCEPTED), (65, 1531))
 
 
 class Headers(unittest.TestCase):
+    def test_any_preamble(self):
+        self.assertEqual(mframe.header(0), b"")
+        self.assertEqual(mframe.header(9), bytes.fromhex("555555555555555555"))
+        self.assertEqual(mframe.header(0, 0xD5), bytes.fromhex("D5"))
+        self.assertEqual(mframe.header(2, 0x61, 0xE6), bytes.fromhex("555561E6"))
+
     def test_express(self):
         body = Chance(31).octets(61)
         self.assertEqual(mframe.express(body), bytes.fromhex("55555555555555D5") + body + fcs(body))

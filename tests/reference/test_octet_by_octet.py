@@ -1,4 +1,4 @@
-"""Tests of octet_by_octet.py: document 02, request (iv), sentence by sentence.
+"""Tests of octet_by_octet.py: document 02, request (iv), sentence by sentence, with the limit of (vi).
 
 Whatever the second receiver is given octet by octet, the first one is given whole, and both must come to the same.
 mFrames are put together from written-out headers and zlib's check.
@@ -20,10 +20,13 @@ DATA = bytes(range(100, 160))
 LONG = Chance(90).octets(1518)
 E, S, V, R = (bytes.fromhex("55555555555555" + code) for code in ("D5", "E6", "07", "19"))
 C = bytes.fromhex("55555555555561E6")
+# Behind seven octets 55, as it can arrive.
+LATE_C = b"\x55" + C
 
 SHORT_EXPRESS = E + DATA + fcs(DATA)
-# As long as an mFrame can be.
+# As long as E can be, and as long as any mFrame can be, which is one octet more.
 LONGEST_EXPRESS = E + LONG + fcs(LONG)
+LONGEST = LATE_C + LONG + mcrc(LONG)
 
 OPEN = Assembly(True, 0, 0, 60, 0x12345678)
 RECORDS = {
@@ -32,15 +35,15 @@ RECORDS = {
     "last numbers": ReceivingRecord(NOT_ASSEMBLING, Counters(*[2**32 - 1] * 4)),
     "out of range": ReceivingRecord(replace(OPEN, kept=59), Counters(5, 6, 7, 8)),
 }
-UNSOUND = (State(1531, False), State(1531, True), State(0, True), State(1, True), State(1529, True),
-           State(2**16 + 1530, True), State(2**31, False), State(2**32 - 1, False), State(2**32 - 1, True))
-SOUND = (EMPTY, State(1, False), State(1529, False), State(1530, False), State(1530, True))
+UNSOUND = (State(1532, False), State(1532, True), State(0, True), State(1, True), State(1530, True),
+           State(2**16 + 1531, True), State(2**31, False), State(2**32 - 1, False), State(2**32 - 1, True))
+SOUND = (EMPTY, State(1, False), State(1530, False), State(1531, False), State(1531, True))
 
 
 class Second:
     """The second receiver with all that its caller keeps."""
 
-    def __init__(self, record=receiving.fresh(), room=1518, area=1530, state=EMPTY):
+    def __init__(self, record=receiving.fresh(), room=1518, area=1531, state=EMPTY):
         self.record, self.state = record, state
         self.memory, self.area = bytearray(memory(room, 3)), bytearray(memory(area, 70))
 
@@ -67,14 +70,15 @@ def first(octets, record, room=1518):
 
 def runs():
     """Octets for every answer that does not need a certain record, and for some that do, up to 5,000 of them."""
-    wrong_preamble = b"\x54" + SHORT_EXPRESS[1:]
-    unknown, out_of_place, no_fragment_code = (bytes.fromhex("555555555555" + code) + DATA + fcs(DATA)
-                                               for code in ("55AD", "5561", "6155"))
-    return [b"", b"\x55", SHORT_EXPRESS[:71], SHORT_EXPRESS, wrong_preamble, unknown, out_of_place, no_fragment_code,
+    hit_preamble = b"\x54" + SHORT_EXPRESS[1:]
+    unknown, no_fragment_code = (bytes.fromhex("555555555555" + code) + DATA + fcs(DATA) for code in ("55AD", "6155"))
+    return [b"", b"\x55", b"\x55" * 8, b"\x61", SHORT_EXPRESS[:71], SHORT_EXPRESS, hit_preamble, unknown,
+            no_fragment_code, b"\x55" + SHORT_EXPRESS, SHORT_EXPRESS[7:], SHORT_EXPRESS[3:], SHORT_EXPRESS[8:],
             SHORT_EXPRESS + b"\x00", V + bytes(60) + mcrc(bytes(60)), R + DATA + mcrc(DATA), R + DATA + fcs(DATA),
-            S + DATA + mcrc(DATA), S + DATA + fcs(DATA), S + LONG + mcrc(LONG), C + DATA + fcs(DATA),
-            C + LONG + bytes(4), LONGEST_EXPRESS[:1529], LONGEST_EXPRESS, LONGEST_EXPRESS + b"\x55",
-            LONGEST_EXPRESS + b"\x55\x55", bytes(5000)]
+            S + DATA + mcrc(DATA), S[5:] + DATA + fcs(DATA), S + LONG + mcrc(LONG), C + DATA + fcs(DATA),
+            LATE_C + DATA + fcs(DATA), C + LONG + bytes(4), LONGEST_EXPRESS[:1529], LONGEST_EXPRESS,
+            LONGEST_EXPRESS + b"\x55", LONGEST_EXPRESS + b"\x55\x55", LONGEST[:1530], LONGEST, LONGEST + b"\x55",
+            bytes(5000), b"\x55" * 5000, LATE_C[:8] + bytes(5000), E + bytes(5000)]
 
 
 class Waiting(unittest.TestCase):
@@ -83,9 +87,9 @@ class Waiting(unittest.TestCase):
     def test_every_octet(self):
         second = Second(area=1600)
         record, lent = second.record, bytes(second.memory)
-        for place, octet in enumerate(LONGEST_EXPRESS):
+        for place, octet in enumerate(LONGEST):
             self.assertEqual(second.call(octet), WAITS)
-            came = LONGEST_EXPRESS[:place + 1]
+            came = LONGEST[:place + 1]
             self.assertEqual(second.kept(), (State(place + 1, False), record, memory(1600, 70, came), lent))
 
     def test_every_value(self):
@@ -93,10 +97,10 @@ class Waiting(unittest.TestCase):
             second = Second(state=State(700, False))
             self.assertEqual(second.call(octet), WAITS)
             self.assertEqual((second.state, bytes(second.area)),
-                             (State(701, False), memory(1530, 70, bytes([octet]), 700)))
+                             (State(701, False), memory(1531, 70, bytes([octet]), 700)))
 
     def test_every_place(self):
-        for count, room in product(range(1530), (1530, 1531)):
+        for count, room in product(range(1531), (1531, 1532)):
             second = Second(area=room, state=State(count, False))
             octet = (second.area[count] + 1) % 256
             self.assertEqual(second.call(octet), WAITS)
@@ -105,9 +109,9 @@ class Waiting(unittest.TestCase):
 
     def test_record_and_buffer_are_not_looked_at(self):
         # There is none to look at.
-        area = bytearray(1530)
+        area = bytearray(1531)
         self.assertEqual(octet_by_octet.call(7, EMPTY, area, None, None), (WAITS, State(1, False), None))
-        self.assertEqual(octet_by_octet.call(7, State(1530, True), area, None, None), (WAITS, State(1530, True), None))
+        self.assertEqual(octet_by_octet.call(7, State(1531, True), area, None, None), (WAITS, State(1531, True), None))
 
 
 class AtTheEnd(unittest.TestCase):
@@ -116,15 +120,15 @@ class AtTheEnd(unittest.TestCase):
 
     def test_every_run(self):
         met = set()
-        for octets, record, room, area in product(runs(), RECORDS.values(), (1517, 1518), (1530, 1700)):
+        for octets, record, room, area in product(runs(), RECORDS.values(), (1517, 1518), (1531, 1700)):
             second = Second(record, room, area)
             answer, waited = second.run(octets)
             self.assertEqual((answer, second.record, bytes(second.memory)), first(octets, record, room))
             self.assertTrue(waited)
             # The area is left as it is, and the state is empty.
-            self.assertEqual((bytes(second.area), second.state), (memory(area, 70, octets[:1530]), EMPTY))
+            self.assertEqual((bytes(second.area), second.state), (memory(area, 70, octets[:1531]), EMPTY))
             met.add(answer.number)
-        self.assertEqual(met, {*range(5), *range(10, 18), 20, 21, 22, 24, 25})
+        self.assertEqual(met, {*range(5), *range(10, 16), 17, 20, 21, 22, 24, 25})
 
     def test_one_run_after_the_other(self):
         # Each begins where the state is empty, whatever the last one left in the area.
@@ -158,53 +162,60 @@ class AtTheEnd(unittest.TestCase):
         self.assertEqual(second.record.counters, Counters(0, 0, 1, 5))
 
     def test_the_state_says_which_octets_came(self):
-        second = Second(area=2000)
-        second.run(LONGEST_EXPRESS)
-        for count in (0, 1, 71, 72, 1529, 1530):
-            second.state = State(count, False)
-            self.assertEqual(second.call(END), first(LONGEST_EXPRESS[:count], receiving.fresh())[0])
+        for octets in (LONGEST_EXPRESS + b"\x00", LONGEST):
+            second = Second(area=2000)
+            second.run(octets)
+            for count in (0, 1, 7, 8, 9, 71, 72, 73, 1529, 1530, 1531):
+                second.record, second.state = receiving.fresh(), State(count, False)
+                self.assertEqual(second.call(END), first(octets[:count], receiving.fresh())[0])
 
 
 class Beyond(unittest.TestCase):
-    """Beyond 1,530 it counts no octet but remembers that there were more."""
+    """Beyond 1,531 it counts no octet but remembers that there were more."""
 
     def test_no_octet_is_counted(self):
-        for room in (1530, 1531, 2000):
+        for room in (1531, 1532, 2000):
             second = Second(area=room)
-            for octet in LONGEST_EXPRESS:
+            for octet in LONGEST:
                 second.call(octet)
-            self.assertEqual(second.state, State(1530, False))
+            self.assertEqual(second.state, State(1531, False))
             for octet in range(256):
                 self.assertEqual(second.call(octet), WAITS)
-                self.assertEqual((second.state, bytes(second.area)),
-                                 (State(1530, True), memory(room, 70, LONGEST_EXPRESS)))
+                self.assertEqual((second.state, bytes(second.area)), (State(1531, True), memory(room, 70, LONGEST)))
             self.assertEqual(second.call(END), Answer(13))
 
-    def test_exactly_1530_are_no_more(self):
+    def test_exactly_1531_are_no_more(self):
+        self.assertEqual(len(LONGEST), 1531)
+        self.assertEqual(Second(RECORDS["assembling"]).run(LONGEST)[0], Answer(24))
+        self.assertEqual(Second(RECORDS["assembling"]).run(LONGEST + b"\x00")[0], Answer(13))
+        # Of E one octet fewer is the most.
         self.assertEqual(Second().run(LONGEST_EXPRESS)[0], Answer(0, 1518))
-        self.assertEqual(Second(state=State(1530, False)).call(END), Answer(14))
-        self.assertEqual(Second(state=State(1530, True)).call(END), Answer(13))
+        self.assertEqual(Second().run(LONGEST_EXPRESS + b"\x00")[0], Answer(13))
 
     def test_what_came_beyond_makes_no_difference(self):
         """The octets kept and that there were more are enough: the first receiver asks no more of the others."""
         chance = Chance(92)
-        longest = [LONGEST_EXPRESS, S + LONG + mcrc(LONG), V + LONG + mcrc(LONG), C + LONG + fcs(LONG),
-                   bytes(1530), b"\x55" * 1530, chance.octets(1530)]
+        longest = {LONGEST: 13, LONGEST_EXPRESS + b"\x55": 13, E[7:] + LONG + bytes(12): 13, S + LONG + bytes(5): 13,
+                   V + LONG + bytes(5): 13, C + LONG + bytes(5): 13, b"\x55" * 1531: 14, b"\x55" + LONGEST[:1530]: 14,
+                   b"\x55" * 1530 + b"\xD5": 14, bytes(1531): 15, E[:7] + bytes(1524): 15, C[:7] + bytes(1524): 17,
+                   C[6:7] + b"\x55" * 1530: 17}
         beyond = [bytes([octet]) for octet in range(256)]
-        beyond += [chance.octets(length) for length in (2, 3, 4, 5, 12, 72, 1529, 1530, 1531, 3470, 2**16, 2**16 + 72)]
+        beyond += [chance.octets(length) for length in (2, 3, 4, 5, 12, 72, 1530, 1531, 1532, 3470, 2**16, 2**16 + 72)]
         beyond += [SHORT_EXPRESS, LONGEST_EXPRESS, fcs(LONGEST_EXPRESS[8:]), mcrc(LONGEST_EXPRESS[8:])]
-        for octets, (name, record), room in product(longest, RECORDS.items(), (1517, 1518)):
-            with self.subTest(octets=octets[:8].hex(), record=name, room=room):
-                expected = Answer(10 if room < 1518 else 11 if name == "out of range" else 13)
-                self.assertEqual({first(octets + others, record, room) for others in beyond},
-                                 {(expected, record, memory(room, 3))})
+        for (octets, number), (name, record), room in product(longest.items(), RECORDS.items(), (1517, 1518)):
+            with self.subTest(octets=octets[:9].hex(), record=name, room=room):
+                self.assertEqual(len(octets), 1531)
+                expected = 10 if room < 1518 else 11 if name == "out of range" else number
+                answered = {first(octets + others, record, room) for others in beyond}
+                # One answer, the right one, and one record, whatever came beyond; the memory stays as it was.
+                self.assertEqual([(answer.number, lent) for answer, _, lent in answered], [(expected, memory(room, 3))])
                 # What the second one asks about is one of these.
-                asked = octet_by_octet.since_the_last_end(State(1530, True), bytearray(octets))
-                self.assertEqual((asked[:1530], len(asked)), (octets, 1531))
+                asked = octet_by_octet.since_the_last_end(State(1531, True), bytearray(octets))
+                self.assertEqual((asked[:1531], len(asked)), (octets, 1532))
 
 
 class Refusals(unittest.TestCase):
-    """18, area under 1,530, then 19, a state counting over 1,530 or remembering more below that, at every call and
+    """18, area under 1,531, then 19, a state counting over 1,531 or remembering more below that, at every call and
     before all others. 18 and 19 change nothing."""
 
     def refused(self, given, number, **kept):
@@ -224,21 +235,21 @@ class Refusals(unittest.TestCase):
             yield given, {"state": state, "area": area, "record": record, "room": room}
 
     def test_the_area(self):
-        for given, kept in self.each(SOUND + UNSOUND, (0, 1, 1518, 1529)):
+        for given, kept in self.each(SOUND + UNSOUND, (0, 1, 1518, 1530)):
             self.refused(given, 18, **kept)
 
     def test_the_state(self):
-        for given, kept in self.each(UNSOUND, (1530, 1531, 2048)):
+        for given, kept in self.each(UNSOUND, (1531, 1532, 2048)):
             self.refused(given, 19, **kept)
 
     def test_the_other_side_of_each_limit(self):
-        for given, kept in self.each(SOUND, (1530, 1531, 2048)):
+        for given, kept in self.each(SOUND, (1531, 1532, 2048)):
             self.not_refused(given, **kept)
 
     def test_every_count(self):
         for count in range(1540):
             for more in (False, True):
-                unsound = count > 1530 or (more and count < 1530)
+                unsound = count > 1531 or (more and count < 1531)
                 for given in (END, 9):
                     self.assertEqual(Second(state=State(count, more)).call(given) == Answer(19), unsound)
 
@@ -265,7 +276,7 @@ class AfterAnEnd(unittest.TestCase):
     """After an end otherwise answered the state is empty."""
 
     def test_every_sound_state(self):
-        for count, more in [*((count, False) for count in range(1531)), (1530, True)]:
+        for count, more in [*((count, False) for count in range(1532)), (1531, True)]:
             second = Second(state=State(count, more))
             second.call(END)
             self.assertEqual(second.state, EMPTY)
@@ -278,7 +289,7 @@ class AfterAnEnd(unittest.TestCase):
             self.assertEqual(second.state, EMPTY)
             second.record, second.memory = receiving.fresh(), bytearray(1518)
             self.assertEqual(second.run(SHORT_EXPRESS), (Answer(0, 60), True))
-        self.assertLessEqual({10, 11, 12, 13}, met)
+        self.assertLessEqual({10, 11, 12, 13, 14, 15, 17}, met)
 
 
 class Histories(unittest.TestCase):
@@ -309,7 +320,7 @@ class Histories(unittest.TestCase):
         met = set()
         for octets in given:
             expected, record = receiving.receive(lent, record, octets)
-            expected_area[:min(len(octets), 1530)] = octets[:1530]
+            expected_area[:min(len(octets), 1531)] = octets[:1531]
             answer, waited = second.run(octets)
             self.assertEqual((answer, waited), (expected, True))
             self.assertEqual(second.kept(), (EMPTY, record, bytes(expected_area), bytes(lent)))
@@ -318,18 +329,18 @@ class Histories(unittest.TestCase):
 
     def test_noisy_exchanges(self):
         met, lengths = set(), set()
-        for seed, trouble, area, room in ((93, 0, 1530, 1518), (94, 10, 1531, 1600), (95, 40, 1530, 1518),
+        for seed, trouble, area, room in ((93, 0, 1531, 1518), (94, 10, 1532, 1600), (95, 40, 1531, 1518),
                                           (96, 100, 2048, 1519)):
             chance = Chance(seed)
-            mframes = exchange.sent_in_turn(chance, 500, 900)
+            mframes = exchange.swallowed(exchange.sent_in_turn(chance, 500, 900), chance)
             given = list(self.ends_out_of_place(chance, exchange.over_a_noisy_row(mframes, chance, trouble)))
             met |= self.run_history(given, area, room)
             lengths |= {len(octets) for octets in given}
-        self.assertLessEqual({*range(5), 12, 13, 14, 15, 16, 17, 20, 21, 22, 23, 25}, met)
+        self.assertLessEqual({*range(5), 12, 13, 14, 15, 17, 20, 21, 22, 23, 25}, met)
         # Empty runs, and some on both sides of the limit.
         self.assertIn(0, lengths)
-        self.assertGreater(len([length for length in lengths if 1400 < length <= 1530]), 5)
-        self.assertGreater(len([length for length in lengths if length > 1530]), 20)
+        self.assertGreater(len([length for length in lengths if 1400 < length <= 1531]), 5)
+        self.assertGreater(len([length for length in lengths if length > 1531]), 20)
 
 
 if __name__ == "__main__":

@@ -1,9 +1,11 @@
 """Tests of receiving.py: document 01, "Receiving", "Counters" and what "Easy to get wrong" says of the receiver.
 
 mFrames are put together here from written-out headers and zlib's check. The counters of
-long histories are counted a second time from the answers alone.
+long histories are counted a second time from the answers alone. Of document 02, (vi) the
+heads are found a second time, by an expression, and the refusals by the sentences of the paper.
 """
 
+import re
 import unittest
 import zlib
 from dataclasses import replace
@@ -79,7 +81,7 @@ class Case(unittest.TestCase):
         self.assertEqual(memory, expected)
 
     def assert_refused(self, octets, number, assembly=NOT_ASSEMBLING, bits=0):
-        counted = 1 if number in (15, 16, 17) else 0
+        counted = 1 if number in (15, 17) else 0
         self.assert_given(octets, assembly, (number, bits), assembly, (0, counted, 0, 0))
 
 
@@ -204,58 +206,135 @@ class Refusals(Case):
         # The check would be good, but the mFrame is too short or too long.
         self.assert_refused(done(E, bytes(59)), 12)
         self.assert_refused(done(E, bytes(1519)), 13)
-        self.assert_refused(bytes(2048), 13)
         for length in (60, 1518):
             self.assertEqual(self.give(done(E, bytes(length)))[0], Answer(0, length))
 
-    def test_preambles(self):
-        for place, octet in product(range(6), (0x00, 0x54, 0xD5, 0x61)):
-            for header in (E, S[0], C[0][0]):
-                wrong = header[:place] + bytes([octet]) + header[place + 1:]
-                self.assert_refused(done(wrong, DATA), 14, opened())
-
-    def test_every_octet_at_place_7(self):
-        known = {0xD5: 0, 0xE6: 1, 0x4C: 1, 0x7F: 1, 0xB3: 1, 0x07: 21, 0x19: 21,
-                 0x61: 16, 0x52: 16, 0x9E: 16, 0x2A: 16}
-        for octet in range(256):
-            answer, _, counters = self.give(done(bytes([0x55] * 7 + [octet]), DATA))
-            self.assertEqual(answer.number, known.get(octet, 15))
-            self.assertEqual(counters.delimiter_errors, 1 if answer.number in (15, 16) else 0)
-        for octet, bits in ((0xAD, 4), (0x55, 1), (0xD4, 1)):
-            self.assert_refused(done(bytes([0x55] * 7 + [octet]), DATA), 15, bits=bits)
-
-    def test_every_octet_at_place_6(self):
-        # With a fragment code behind it and nothing in assembly, a C is 22.
-        known = {0x61: 22, 0x52: 22, 0x9E: 22, 0x2A: 22, 0x55: 1,
-                 0xD5: 16, 0xE6: 16, 0x4C: 16, 0x7F: 16, 0xB3: 16, 0x07: 16, 0x19: 16}
-        for octet in range(256):
-            answer, _, counters = self.give(done(bytes([0x55] * 6 + [octet, 0xE6]), DATA))
-            self.assertEqual(answer.number, known.get(octet, 15))
-            self.assertEqual(counters.delimiter_errors, 0 if octet == 0x55 else 1)
-        # It is place 6 that counts, even where place 7 would be good.
+    def test_every_octet_as_delimiter(self):
+        # Nothing is in assembly, so that a C is 22; behind its fragment code stand as many octets as there must.
+        known = {0xD5: 0, 0xE6: 1, 0x4C: 1, 0x7F: 1, 0xB3: 1, 0x07: 21, 0x19: 21}
+        for preamble, octet in product(range(8), range(256)):
+            if octet == 0x55:
+                continue
+            is_continuation = octet in (0x61, 0x52, 0x9E, 0x2A)
+            header = bytes([0x55] * preamble + [octet]) + (b"\x7F" if is_continuation else b"")
+            answer, _, counters = self.give(done(header, DATA))
+            self.assertEqual(answer.number, 22 if is_continuation else known.get(octet, 15))
+            self.assertEqual(counters.delimiter_errors, 1 if answer.number in (15, 22) else 0)
+        for preamble, (octet, bits) in product(range(8), ((0xAD, 4), (0x54, 2), (0x57, 2), (0x5D, 2), (0xD4, 1))):
+            self.assert_refused(done(bytes([0x55] * preamble + [octet]), DATA), 15, bits=bits)
+        # It is the first octet that is not 55 that counts, even where the next would be good.
         self.assert_refused(done(bytes([0x55] * 6 + [0xAD, 0xD5]), DATA), 15, bits=4)
 
     def test_every_fragment_code(self):
-        for octet in range(256):
-            answer = self.give(more(bytes([0x55] * 6 + [0x61, octet]), DATA, bytes(64)), opened())[0]
+        for preamble, octet in product(range(8), range(256)):
+            answer = self.give(more(bytes([0x55] * preamble + [0x61, octet]), DATA, bytes(64)), opened())[0]
             self.assertEqual(answer.number, {0xE6: 2, 0x4C: 23, 0x7F: 23, 0xB3: 23}.get(octet, 17))
 
     def test_order(self):
         bad_record = replace(opened(), kept=59)
-        faults = (  # a header and the number it is refused with
-            (bytes([0x55] * 7 + [0xAD]), 15), (bytes([0x55] * 6 + [0xAD, 0xD5]), 15),
-            (bytes([0x55] * 7 + [0x61]), 16), (bytes([0x55] * 6 + [0xE6, 0xE6]), 16),
-            (bytes([0x55] * 6 + [0x61, 0x55]), 17),
-        )
-        for short, wrong_record, length, wrong_preamble, (header, number) in product(
-                (False, True), (False, True), (71, 72, 1531), (False, True), faults):
-            if wrong_preamble:
-                header, number = header[:5] + b"\x54" + header[6:], 14
-            number = {71: 12, 72: number, 1531: 13}[length]
-            number = 10 if short else 11 if wrong_record else number
-            answer = self.give(done(header, bytes(length - 12)), bad_record if wrong_record else opened(),
+        faults = (  # what follows the octets 55, and the number it is refused with, if any
+            ("AD", 15), ("00", 15), ("61 55", 17), ("2A 00", 17), ("D5", None), ("61 E6", None))
+        for short, wrong_record, behind, preamble, (header, number) in product(
+                (False, True), (False, True), (0, 1, 63, 64, 1522, 1523, 5000), (0, 3, 7, 8, 9), faults):
+            header = b"\x55" * preamble + bytes.fromhex(header)
+            lengths = 12 if behind < 64 else 13 if behind > 1522 else None
+            expected = 10 if short else 11 if wrong_record else 14 if preamble > 7 else number or lengths
+            answer = self.give((header + bytes(5000))[:len(header) + behind], bad_record if wrong_record else opened(),
                                memory=memory_of(1517 if short else 1518))[0]
-            self.assertEqual(answer.number, number)
+            if expected is None:
+                self.assertIn(answer.number, (20, 24, 25))
+            else:
+                self.assertEqual(answer.number, expected)
+
+
+HEADERS = [*(E, V, R), *S, *(header for headers in C for header in headers)]
+
+
+class ShortenedPreambles(Case):
+    """Document 02, (vi): from no to seven octets 55 before any delimiter. Each test is a sentence of it."""
+
+    def variants(self, octets):
+        """The same mFrame behind none to seven octets 55."""
+        rest = octets.lstrip(b"\x55")
+        return [b"\x55" * preamble + rest for preamble in range(8)]
+
+    def test_any_number_before_any_delimiter(self):
+        # Whatever the mFrame and the record: answer, assembly, counters and memory are those of the mFrame as it is sent.
+        for header, make, assembly in product(HEADERS, (done, more), (NOT_ASSEMBLING, opened(bytes(60), 2, 1))):
+            for octets in (make(header, DATA), make(header, DATA, bytes(60)), spoiled(make(header, DATA))):
+                memory = memory_of()
+                expected = self.give(octets, assembly, memory=memory), memory
+                for variant in self.variants(octets):
+                    memory = memory_of()
+                    self.assertEqual((self.give(variant, assembly, memory=memory), memory), expected)
+
+    def test_eight_or_more(self):
+        for preamble, header in product((8, 9, 10, 64, 1522, 5000), ("", "D5", "61E6", "00", "6155")):
+            for behind in (b"", bytes(64), bytes(1523)):
+                self.assert_refused(b"\x55" * preamble + bytes.fromhex(header) + behind, 14, opened())
+
+    def test_octets_that_end_before_their_delimiter(self):
+        for preamble in range(8):
+            self.assert_refused(b"\x55" * preamble, 12, opened())
+
+    def test_octets_that_end_before_their_fragment_code_or_behind_it(self):
+        for header in HEADERS:
+            for variant in self.variants(header):
+                self.assert_refused(variant, 12, opened())
+                if header[6] != 0x55:
+                    self.assert_refused(variant[:-1], 12, opened())
+
+    def test_a_lone_octet(self):
+        for octet in range(256):
+            known = octet in (0x55, 0xD5, 0xE6, 0x4C, 0x7F, 0xB3, 0x61, 0x52, 0x9E, 0x2A, 0x07, 0x19)
+            self.assertEqual(self.give(bytes([octet]))[0].number, 12 if known else 15)
+
+    def test_both_limits_from_the_headers_end(self):
+        for header, (behind, number) in product(HEADERS, ((63, 12), (64, None), (1522, None), (1523, 13))):
+            for variant in self.variants(header + bytes(behind)):
+                if number is None:
+                    self.assertGreaterEqual(self.give(variant, opened())[0].number, 20)
+                else:
+                    self.assert_refused(variant, number, opened())
+
+    def test_the_shortest_and_the_longest(self):
+        shortest = done(b"\xD5", DATA)
+        self.assertEqual((len(shortest), self.give(shortest)[0]), (65, Answer(0, 60)))
+        longest = more(b"\x55" * 7 + b"\x61\xE6", bytes(1518), bytes(64))
+        self.assertEqual(len(longest), 1531)
+        self.assert_given(longest, opened(), (24, 0), NOT_ASSEMBLING, (1, 0, 0, 0))
+        self.assert_given(longest, NOT_ASSEMBLING, (22, 0), NOT_ASSEMBLING, (0, 1, 0, 0))
+        self.assert_given(longest, opened(frame=1), (23, 0), NOT_ASSEMBLING, (1, 0, 0, 0))
+
+    def test_data_that_begin_with_octets_55(self):
+        for header, data in product((E, S[1], C[0][0]), (b"\x55" * 60, b"\x55" + bytes(59), b"\x55\x55\xD5" + DATA)):
+            before = bytes(64) if header == C[0][0] else b""
+            for variant in self.variants(done(header, data, before)):
+                memory = memory_of()
+                answer = self.give(variant, opened(), memory=memory)[0]
+                self.assertEqual(answer, Answer(0 if header == E else 1, len(before + data)))
+                if header == E:
+                    begin, length = receiving.express_body(variant)
+                    self.assertEqual(variant[begin:begin + length], data)
+                else:
+                    self.assertEqual(memory[len(before):len(before + data)], data)
+
+    def test_parts_of_one_frame_with_different_numbers(self):
+        body = Chance(86).octets(180)
+        first, second, third = exchange.Sender(next_frame_count=1).frame(body, 0)
+        for of_first, of_second, of_third in product(range(8), range(8), range(8)):
+            memory, record = memory_of(), receiving.fresh()
+            for octets in (self.variants(first)[of_first], self.variants(second)[of_second],
+                           self.variants(third)[of_third]):
+                answer, record = receiving.receive(memory, record, octets)
+            self.assertEqual((answer, memory[:180], record.counters), (Answer(1, 180), body, Counters(0, 0, 1, 2)))
+
+    def test_16_no_longer_occurs(self):
+        self.assertNotIn(16, [number for number, _ in receiving.REFUSALS])
+        # What was 16 is now as good as anything else.
+        self.assertEqual(self.give(done(bytes.fromhex("555555555555D5"), DATA))[0], Answer(0, 60))
+        self.assertEqual(self.give(more(bytes.fromhex("5555555555555561E6"), DATA, bytes(64)), opened())[0],
+                         Answer(2, 124))
 
 
 class CountersGoingRound(Case):
@@ -271,27 +350,32 @@ class CountersGoingRound(Case):
             (more(C[0][0], DATA, full), opened(full), (0, LAST, LAST, LAST)),
             (spoiled(more(C[0][0], DATA, kept)), opened(kept), (0, LAST, LAST, LAST)),
             (done(bytes([0x55] * 7 + [0]), DATA), opened(), (LAST, 0, LAST, LAST)),
-            (done(bytes([0x55] * 7 + [0x61]), DATA), opened(), (LAST, 0, LAST, LAST)),
+            (b"\x00", opened(), (LAST, 0, LAST, LAST)),
             (done(bytes([0x55] * 6 + [0x61, 0]), DATA), opened(), (LAST, 0, LAST, LAST)),
+            (bytes([0x61, 0]), opened(), (LAST, 0, LAST, LAST)),
             (more(C[0][0], DATA), NOT_ASSEMBLING, (LAST, 0, LAST, LAST)),
             (done(C[0][0], DATA, kept), opened(kept), (LAST, LAST, 0, 0)),
             (more(C[0][0], DATA, kept), opened(kept), (LAST, LAST, LAST, 0)),
             (done(S[0], DATA), NOT_ASSEMBLING, (LAST, LAST, LAST, LAST)),
             (done(E, DATA), opened(), (LAST, LAST, LAST, LAST)),
-            (bytes(72), opened(), (LAST, LAST, LAST, LAST)),
+            (done(bytes([0x55] * 8 + [0]), DATA), opened(), (LAST, LAST, LAST, LAST)),
+            (b"", opened(), (LAST, LAST, LAST, LAST)),
+            (b"\x61", opened(), (LAST, LAST, LAST, LAST)),
+            (done(E, bytes(1519)), opened(), (LAST, LAST, LAST, LAST)),
         ):
             self.assertEqual(self.give(octets, assembly, last)[2], Counters(*expected))
 
 
 class ExpressBody(Case):
     def test_the_part_of_the_mframe(self):
-        for length in (60, 61, 1518):
-            self.assertEqual(receiving.express_body(done(E, bytes(length))), (8, length))
+        for preamble, length in product(range(8), (60, 61, 1518)):
+            self.assertEqual(receiving.express_body(done(E[7 - preamble:], bytes(length))), (preamble + 1, length))
 
     def test_else_the_empty_part_at_the_front(self):
         for octets in (b"", bytes(72), done(E, bytes(59)), done(E, bytes(1519)), more(E, DATA), spoiled(done(E, DATA)),
                        more(V, DATA), done(S[0], DATA), more(S[0], DATA), more(C[0][0], DATA),
-                       done(bytes([0x55] * 6 + [0xD5, 0xD5]), DATA)):
+                       done(bytes([0x55] * 6 + [0xD5, 0xD5]), DATA), done(b"\x55" + E, DATA), done(b"\xD5", bytes(59)),
+                       spoiled(done(b"\xD5", DATA)), b"\x55" * 7, b"\xD5"):
             self.assertEqual(receiving.express_body(octets), (0, 0))
 
 
@@ -341,9 +425,8 @@ class EasyToGetWrong(Case):
 
 def kind_of(octets):
     """S, C or another, by the header alone; only for mFrames that were not refused."""
-    if octets[:7] == bytes([0x55] * 7):
-        return "S" if octets[7] in (0xE6, 0x4C, 0x7F, 0xB3) else "other"
-    return "C"
+    found = re.match(rb"\x55{0,7}(?:([\xE6\x4C\x7F\xB3])|([\x61\x52\x9E\x2A])|[\xD5\x07\x19])", octets, re.DOTALL)
+    return "S" if found[1] else "C" if found[2] else "other"
 
 
 class Histories(Case):
@@ -373,7 +456,7 @@ class Histories(Case):
                 assembled += number == 1 and parts > 1
                 parts = 0
             delivered += number == 1
-            delimiters += number in (15, 16, 17, 22)
+            delimiters += number in (15, 17, 22)
             self.assertEqual(record.counters, Counters(abandoned + damaged_starts, delimiters, assembled, fragments))
             # The start sum of document 01.
             self.assertEqual(starts, delivered + record.counters.assembly_errors + record.assembly.assembling)
@@ -393,8 +476,10 @@ class Histories(Case):
         for seed, trouble in ((76, 0), (77, 3), (78, 15), (79, 50), (80, 100)):
             chance = Chance(seed)
             mframes = exchange.sent_in_turn(chance, 600, 900)
+            if seed % 2 == 0:
+                mframes = exchange.swallowed(mframes, chance)
             met |= self.run_history(exchange.over_a_noisy_row(mframes, chance, trouble))
-        self.assertLessEqual({0, 1, 2, 3, 4, 12, 14, 15, 16, 17, 20, 21, 22, 23, 25}, met)
+        self.assertLessEqual({0, 1, 2, 3, 4, 12, 14, 15, 17, 20, 21, 22, 23, 25}, met)
 
     def test_random_pieces(self):
         # Starts and continuations of all counts with good and bad checks, in no order at all.
@@ -437,6 +522,8 @@ class Loss(Case):
     def test_delivered_and_nothing_else(self):
         for seed, one_in in ((82, 1000), (83, 10), (84, 4), (85, 2)):
             given, expected = self.exchange_with_loss(Chance(seed), 150, one_in)
+            if seed % 2 == 1:
+                given = exchange.swallowed(given, Chance(seed))
             memory, record, delivered = memory_of(1518), receiving.fresh(), []
             for octets in given:
                 answer, record = receiving.receive(memory, record, octets)
