@@ -46,8 +46,8 @@ DELIMITERS = (
     Delimiter(0x19, RESPOND, None),
 )
 
-# The code at place 7 of a continuation, by fragment count. The four are also the start
-# delimiters, but the place tells the two apart, so this is a list of its own.
+# The code behind the delimiter of a continuation, by fragment count. The four are also the
+# start delimiters, but the place tells the two apart, so this is a list of its own.
 FRAGMENT_CODES = (0xE6, 0x4C, 0x7F, 0xB3)
 
 
@@ -106,7 +106,7 @@ def previous_frame_count(frame_count):
 
 
 def fragment_code(fragment_count):
-    """The code at place 7 of a continuation; a count made by hand over 3 is taken modulo 4."""
+    """The code behind the delimiter of a continuation; a count made by hand over 3 is taken modulo 4."""
     return FRAGMENT_CODES[fragment_count % COUNTS]
 
 

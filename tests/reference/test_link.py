@@ -19,6 +19,7 @@ import link_answers
 import link_questions
 import receiving
 import witness
+import wrong_receiving
 from chance import Chance
 
 # The whole header of a start, and of E, behind any number of octets 55 that is not refused.
@@ -360,7 +361,6 @@ class Answers(unittest.TestCase):
     def test_entries_are_read_little_endian(self):
         entries = bytes.fromhex("01 02 03 04 05 00 00 00 0C 00 00 00 0C 00 00 00")
         expected = SecondPlay(0x04030201, 5).lines + SecondPlay(12, 12).lines
-        self.assertGreater(len(expected), 4)
         self.assertEqual(link_answers.answers(entries).decode("ascii").splitlines(), expected)
 
     def test_the_game_of_the_readme(self):
@@ -421,6 +421,23 @@ class OtherSeeds(unittest.TestCase):
             played = link.play(seed, 60)
             self.assertTrue(as_demanded(played), seed)
             self.assertEqual(link_answers.lines(played), SecondPlay(seed, 60).lines, seed)
+
+
+class WrongReceivers(unittest.TestCase):
+    """With a receiver that is wrong in the heads the third demand is not met where octets are dropped, and else it is."""
+
+    def test_each(self):
+        for group, name in (
+                ("preambles", "a delimiter without octets 55 is 14"), ("preambles", "one octet 55 is 14"),
+                ("preambles", "fewer than six octets 55 are 14"), ("preambles", "a shortened continuation is 16"),
+                ("heads", "the delimiter at place 6 or 7"), ("heads", "the header of E ends at place 8"),
+                ("heads", "the header of S ends at place 8"), ("heads", "the header of C ends at place 8"),
+                ("heads", "the fragment code is at place 7"), ("parts", "the body from place 8 on"),
+                ("parts", "the octets kept from place 8 on"), ("parts", "the check from place 8 on")):
+            with self.subTest(name), wrong_receiving.GROUPS[group][name]():
+                self.assertFalse(as_demanded(link.play(7200, 150)))
+                with mock.patch.object(link, "shortened", lambda octets, _: octets):
+                    self.assertTrue(as_demanded(link.play(7200, 150)))
 
 
 class StoredGames(unittest.TestCase):

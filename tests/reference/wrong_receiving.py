@@ -272,11 +272,12 @@ def checked_from(place):
 def kept_from(place):
     """The data of S and C are laid in the memory from another place of the mFrame on: given the head."""
     def receive(memory, record, octets):
-        octets, before = bytes(octets), bytes(memory)
+        octets = bytes(octets)
+        head = RIGHT_HEAD(octets)
         answer, after = RIGHT_RECEIVE(memory, record, octets)
-        if memory != before:
-            moved = octets[place(RIGHT_HEAD(octets)):-4]
-            memory[answer.detail - len(moved):answer.detail] = moved
+        if answer.number in (receiving.PREEMPTABLE_DELIVERED, receiving.FRAGMENT_KEPT):
+            begin = answer.detail - (len(head.behind) - crc.CHECK_OCTETS)
+            memory[begin:answer.detail] = (octets[place(head):] + octets)[:answer.detail - begin]
         return answer, after
     return replaced("receive", receive)
 
