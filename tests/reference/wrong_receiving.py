@@ -87,34 +87,29 @@ PREAMBLES = {
 }
 
 
+def tested_before(first, second):
+    """Where both numbers apply, and none that comes before them, the answer is the one that must come later."""
+    def refusal(room, assembly, head):
+        right = RIGHT_REFUSAL(room, assembly, head)
+        if right is None or right.number != second or not APPLIES[first](room, assembly, head):
+            return right
+        return Answer(first, head.delimiter.differing_bits if first == DELIMITER_UNKNOWN else 0)
+    return replaced("refusal", refusal)
+
+
 def in_order(*order):
-    """The tests in another order; 10 and 11 are first where they are not named."""
-    first = [number for number in (BUFFER_SHORT, RECORD_OUT_OF_RANGE) if number not in order]
-    return replaced("REFUSALS", tuple((number, APPLIES[number]) for number in (*first, *order)))
+    return replaced("REFUSALS", tuple((number, APPLIES[number]) for number in order))
 
 
-# Wrong in the order. 12 and 13 cannot both apply, nor can 15 and 17.
+# What can apply together with a number and comes behind it. 15 and 17 cannot both apply, nor can 12 and 13.
+BEHIND = {BUFFER_SHORT: (11, 14, 15, 17, 12, 13), RECORD_OUT_OF_RANGE: (14, 15, 17, 12, 13),
+          PREAMBLE_LONG: (15, 17, 12, 13), DELIMITER_UNKNOWN: (12, 13), FRAGMENT_CODE_UNKNOWN: (12, 13)}
+
+# Wrong in the order.
 ORDER = {
-    "11 before 10": in_order(11, 10, 14, 15, 17, 12, 13),
-    "14 before 10": in_order(14, 10, 11, 15, 17, 12, 13),
-    "14 before 11": in_order(10, 14, 11, 15, 17, 12, 13),
-    "15 before 11": in_order(10, 15, 11, 14, 17, 12, 13),
-    "17 before 11": in_order(10, 17, 11, 14, 15, 12, 13),
-    "12 before 10": in_order(12, 10, 11, 14, 15, 17, 13),
-    "12 before 11": in_order(10, 12, 11, 14, 15, 17, 13),
-    "13 before 10": in_order(13, 10, 11, 14, 15, 17, 12),
-    "13 before 11": in_order(10, 13, 11, 14, 15, 17, 12),
-    "15 before 14": in_order(15, 14, 17, 12, 13),
-    "17 before 14": in_order(17, 14, 15, 12, 13),
-    "12 before 14": in_order(12, 14, 15, 17, 13),
-    "13 before 14": in_order(13, 14, 15, 17, 12),
-    "12 before 15": in_order(14, 12, 15, 17, 13),
-    "13 before 15": in_order(14, 13, 15, 17, 12),
-    "12 before 17": in_order(14, 15, 12, 17, 13),
-    "13 before 17": in_order(14, 15, 13, 17, 12),
-    "the order of document 01": in_order(12, 13, 14, 15, 17),
+    **{f"{first} before {second}": tested_before(first, second) for second, behind in BEHIND.items() for first in behind},
+    "the order of document 01": in_order(10, 11, 12, 13, 14, 15, 17),
 }
-
 
 
 def in_place_of_12(answer, applies):
