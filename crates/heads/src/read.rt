@@ -57,7 +57,11 @@ fn fragmented(frame: FrameCount, code: usize, mframe: &[u8]) -> Head
         return Head::Refused(Fault::Short);
     }
     match delimiters::fragment_of(mframe[code]) {
-        Fragment::Known(fragment) => sized(Kind::Continuation(frame, fragment), code + 1, mframe.len()),
+        Fragment::Known(fragment) => sized(
+            Kind::Continuation(frame, fragment),
+            code + 1,
+            mframe.len(),
+        ),
         Fragment::Unknown => Head::Refused(Fault::Fragment),
     }
 }

@@ -194,7 +194,11 @@ fn fate(l: Link, out: &[u8], buffer: &mut [u8; 1518]) -> Link {
     }
     let y = chance::step(x);
     next.x = y;
-    arrive(next, shortened(read::front(out, l.wrote), chance::one_of(y, 9)), buffer)
+    arrive(
+        next,
+        shortened(read::front(out, l.wrote), chance::one_of(y, 9)),
+        buffer,
+    )
 }
 
 fn say_end(l: Link) -> bool {
