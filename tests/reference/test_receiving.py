@@ -249,6 +249,21 @@ class Refusals(Case):
 
 HEADERS = [*(E, V, R), *S, *(header for headers in C for header in headers)]
 
+# Octets 55; a C and the octet behind it, or another octet, where there are such; all the rest.
+HEAD = re.compile(rb"(\x55*)(?:([\x61\x52\x9E\x2A])(.?)|(.))?(.*)", re.DOTALL)
+
+
+def refused_by_the_paper(octets):
+    """The number from 12 to 17 that answers, or None, with document 02's order and an expression for the head."""
+    leading, continuation, code, other, behind = HEAD.fullmatch(octets).groups()
+    if len(leading) >= 8:
+        return 14
+    if other and other not in b"\xD5\xE6\x4C\x7F\xB3\x07\x19":
+        return 15
+    if continuation and code and code not in b"\xE6\x4C\x7F\xB3":
+        return 17
+    return 12 if len(behind) < 64 else 13 if len(behind) > 1522 else None
+
 
 class ShortenedPreambles(Case):
     """Document 02, (vi): from no to seven octets 55 before any delimiter. Each test is a sentence of it."""
@@ -328,6 +343,19 @@ class ShortenedPreambles(Case):
                            self.variants(third)[of_third]):
                 answer, record = receiving.receive(memory, record, octets)
             self.assertEqual((answer, memory[:180], record.counters), (Answer(1, 180), body, Counters(0, 0, 1, 2)))
+
+    def test_every_short_run_of_some_octets(self):
+        # Up to five octets, each of which is a 55, a delimiter, a fragment code or neither, with much, little or nothing
+        # around them.
+        met = set()
+        for length in range(6):
+            for word, preamble, behind in product(product(b"\x55\xD5\x61\xE6\x00", repeat=length), (0, 4, 6),
+                                                  (0, 59, 64, 1518, 1530)):
+                octets = b"\x55" * preamble + bytes(word) + bytes(behind)
+                answer = receiving.refusal(1518, NOT_ASSEMBLING, receiving.head_of(octets))
+                self.assertEqual(answer and answer.number, refused_by_the_paper(octets), octets[:20].hex())
+                met.add(answer and answer.number)
+        self.assertEqual(met, {None, 12, 13, 14, 15, 17})
 
     def test_16_no_longer_occurs(self):
         self.assertNotIn(16, [number for number, _ in receiving.REFUSALS])
