@@ -14,7 +14,8 @@ use Rattle.delimiters.specs.declared.Delimiter.{Delimiter}
 use Rattle.delimiters.specs.declared.Delimiter.the-variants as D
 use Rattle.delimiters.specs.declared.Fragment.{Fragment}
 use Rattle.delimiters.specs.declared.Fragment.the-variants as F
-use Rattle.heads.specs.Head.{Reading, known, refused, leading, sizedOf, codedOf, delimitedOf, headOf}
+use Rattle.preambles.specs.Preamble.{leading}
+use Rattle.heads.specs.Head.{Reading, known, refused, sizedOf, codedOf, delimitedOf, headOf}
 use Rattle.mframe.specs.declared.Kind.{Kind}
 use Rattle.mframe.specs.declared.Kind.the-variants as K
 use Rattle.mframe.proofs.Laws.{Counted}

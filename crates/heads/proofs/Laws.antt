@@ -16,7 +16,8 @@ use Rattle.delimiters.proofs.Laws.{start-read, continuation-read, fragment-read
 use Rattle.mframe.specs.declared.Kind.{Kind}
 use Rattle.mframe.specs.declared.Kind.the-variants.{Express, Start, Continuation, Verify, Respond}
 use Rattle.mframe.specs.Octets.{afterSeven, afterSix, headerOf}
-use Rattle.heads.specs.Head.{known, leading, sizedOf, delimitedOf, headOf}
+use Rattle.preambles.specs.Preamble.{leading}
+use Rattle.heads.specs.Head.{known, sizedOf, delimitedOf, headOf}
 use Rattle.mframe.proofs.Laws.{Counted, header-length}
 
 -- 55 is no delimiter

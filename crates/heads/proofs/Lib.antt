@@ -1,6 +1,4 @@
-pub mod Leading
+pub mod Counted
 pub mod Heads
 pub mod Laws
-pub mod Shorter
-pub mod Beyond
 pub mod Once

@@ -1,8 +1,8 @@
 -- What the head of any octets says (document 01, "Receiving", with the heads of document 02, (vi)). Assumes nothing.
 use mathlib.Core.Bool.{Bool, true, false, cond}
-use mathlib.Core.List.{List, [], _∷_}
+use mathlib.Core.List.{List}
 use Prim.Native.Nat.{ℕ, _+_}
-use lib.Dec.{eqb, ltb}
+use lib.Dec.{ltb}
 use lib.ListN.{length, getD}
 use Rattle.delimiters.specs.Delimiters.{delimiterOf, fragmentOf}
 use Rattle.codes.specs.declared.FrameCount.{FrameCount}
@@ -12,6 +12,7 @@ use Rattle.delimiters.specs.declared.Fragment.{Fragment}
 use Rattle.delimiters.specs.declared.Fragment.the-variants as F
 use Rattle.mframe.specs.declared.Kind.{Kind}
 use Rattle.mframe.specs.declared.Kind.the-variants as K
+use Rattle.preambles.specs.Preamble.{leading}
 use Rattle.faults.specs.Faults.{faultNumber, faultDetail}
 use Rattle.heads.specs.declared.Head.{Head}
 use Rattle.heads.specs.declared.Head.the-variants.{Known, Refused}
@@ -24,11 +25,6 @@ pub data Reading : Type 0 where
 abbrev pub reading : Head → Reading
 reading (Known kind place) = known kind place
 reading (Refused fault) = refused (faultNumber fault) (faultDetail fault)
-
--- the number of leading octets 55
-unfoldable pub leading : List ℕ → ℕ
-leading [] = 0
-leading (x ∷ m) = cond (eqb x 0x55) (1 + leading m) 0
 
 -- a header that ends at a place, of n octets in all: behind it are 64 to 1,522, else 12 or 13
 abbrev pub sizedOf : Kind → (place n : ℕ) → Reading
@@ -64,8 +60,3 @@ headOf m = behind (leading m) m
 abbrev pub isKnown : Reading → Bool
 isKnown (known kind place) = true
 isKnown (refused number detail) = false
-
--- what a head of more octets than any mFrame has says, by what its first 1,531 say: 14, 15 and 17 stay, any other is 13
-abbrev pub beyond : Reading → Reading
-beyond (known kind place) = refused 13 0
-beyond (refused number detail) = refused number detail

@@ -5,34 +5,15 @@ use delimiters::Delimiter;
 use delimiters::Fragment;
 use faults::Fault;
 use mframe::Kind;
+use preambles::TOO_MANY;
 ghost use mathlib.Core.Path.{_≡_};
-ghost use Prim.Native.Nat.{min, _≤_};
-ghost use Rattle.heads.specs.Head.{leading, reading, sizedOf, fragmentedOf, delimitedOf, headOf, isKnown};
+ghost use Prim.Native.Nat.{_≤_};
+ghost use Rattle.heads.specs.Head.{reading, sizedOf, fragmentedOf, delimitedOf, headOf, isKnown};
 
 // The least and the most octets behind a header.
 const LEAST: usize = 64;
 
 const MOST: usize = 1522;
-
-// A preamble has fewer octets 55 than this.
-const TOO_MANY: u32 = 8;
-
-// How many octets 55 lead; the count stops where there are too many, so that no input is gone through to its end.
-fn lead(mframe: &[u8]) -> u32
-    ensures { λ n. ⌜ n ≡ min 8 (leading (now (mframe .entry))) ⌝ }
-{
-    let mut n: u32 = 0;
-    while n < TOO_MANY {
-        if mframe.len() <= n as usize {
-            return n;
-        }
-        if mframe[n as usize] != 0x55 {
-            return n;
-        }
-        n += 1;
-    }
-    TOO_MANY
-}
 
 // A kind whose header ends at a place: whether the octets behind it are as many as an mFrame has.
 fn sized(kind: Kind, place: usize, length: usize) -> Head
@@ -84,7 +65,7 @@ fn delimited(delimiter: Delimiter, place: usize, mframe: &[u8]) -> Head
 pub fn head_of(mframe: &[u8]) -> Head
     ensures { λ r. ⌜ reading r ≡ headOf (now (mframe .entry)) ⌝ }
 {
-    let place = lead(mframe) as usize;
+    let place = preambles::lead(mframe) as usize;
     if place == TOO_MANY as usize {
         return Head::Refused(Fault::Preamble);
     }

@@ -9,7 +9,7 @@ use lib.Dec.{eqb, ltb}
 use lib.ListN.{drop}
 use Rattle.rules.proofs.Tests.{both}
 use Rattle.heads.specs.Head.{known, headOf}
-use Rattle.heads.proofs.Shorter.{one-less}
+use Rattle.head_laws.proofs.Shorter.{one-less}
 use Rattle.mframe.specs.declared.Kind.{Kind}
 use Rattle.link.specs.Frames.{shortened}
 

@@ -11,8 +11,9 @@ use lib.Dec.{ltb}
 use lib.ListN.{length, take, length-append}
 use lib.Seq.{length-take-le, take-at}
 use Rattle.rules.proofs.Tests.{neither, both}
-use Rattle.heads.specs.Head.{Reading, known, refused, headOf, isKnown, beyond}
-use Rattle.heads.proofs.Beyond.{head-beyond}
+use Rattle.heads.specs.Head.{Reading, known, refused, headOf, isKnown}
+use Rattle.head_laws.specs.Beyond.{beyond}
+use Rattle.head_laws.proofs.Beyond.{head-beyond}
 use Rattle.receiver_answers.specs.declared.Refusal.{Refusal}
 use Rattle.receiver_answers.specs.declared.Answer.the-variants.{Refused}
 use Rattle.receiver_answers.specs.Answers.{Said}

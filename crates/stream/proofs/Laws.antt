@@ -8,8 +8,9 @@ use borrow.Author.Tests.{ltb-true, ltb-false}
 use lib.Dec.{ltb}
 use lib.ListN.{length, take}
 use lib.Seq.{take-all}
-use Rattle.heads.specs.Head.{refused, headOf, beyond}
-use Rattle.heads.proofs.Beyond.{head-beyond, beyond-refused}
+use Rattle.heads.specs.Head.{refused, headOf}
+use Rattle.head_laws.specs.Beyond.{beyond}
+use Rattle.head_laws.proofs.Beyond.{head-beyond, beyond-refused}
 use Rattle.receiver_record.specs.declared.Record.{Record}
 use Rattle.receiver_record.specs.Records.{inRange}
 use Rattle.receiver_answers.specs.Answers.{says}

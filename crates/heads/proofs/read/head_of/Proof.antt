@@ -2,7 +2,7 @@
 -- Assumes nothing.
 use mathlib.Core.Path.{sym, _∙_}
 use native.Mathlib.Omega.{arith}
-use Rattle.heads.proofs.Leading.{too-many, by-count}
+use Rattle.heads.proofs.Counted.{too-many, by-count}
 use Rattle.rules.proofs.Tests.{tests}
 use borrow.Author.Needs.{needs}
 use Rattle.heads.proofs.read.head_of.Statement.{statement}

@@ -17,8 +17,10 @@ use Rattle.delimiters.specs.declared.Fragment.{Fragment}
 use Rattle.delimiters.specs.declared.Fragment.the-variants as F
 use Rattle.mframe.specs.declared.Kind.{Kind}
 use Rattle.mframe.specs.declared.Kind.the-variants as K
-use Rattle.heads.specs.Head.{Reading, known, refused, leading, sizedOf, codedOf, delimitedOf, behind, headOf, beyond}
-use Rattle.heads.proofs.Leading.{leading-take}
+use Rattle.preambles.specs.Preamble.{leading}
+use Rattle.heads.specs.Head.{Reading, known, refused, sizedOf, codedOf, delimitedOf, behind, headOf}
+use Rattle.preambles.proofs.Leading.{leading-take}
+use Rattle.head_laws.specs.Beyond.{beyond}
 
 module _ (m : List ℕ) (long : 1531 < length m) where
   front : List ℕ

@@ -11,8 +11,7 @@ use borrow.Author.Tests.{ne-eqb, eq-eqb}
 use lib.Dec.{eqb}
 use lib.ListN.{length, take, drop, getD}
 use lib.Seq.{drop-cons, drop-length}
-use Rattle.rules.proofs.Tests.{tests}
-use Rattle.heads.specs.Head.{refused, leading, behind, headOf}
+use Rattle.preambles.specs.Preamble.{leading}
 
 -- at a place: one more, or none, or the end
 pub one-more : (m : List ℕ) (i : ℕ) → i < length m → getD m i 0 ≡ 0x55 → leading (drop i m) ≡ 1 + leading (drop (i + 1) m)
@@ -37,13 +36,3 @@ leading-take (suc k) (x ∷ m) = go (eqb x 0x55) (leading-take k m)
     go : (b : Bool) → leading (take k m) ≡ min k (leading m) → cond b (1 + leading (take k m)) 0 ≡ min (suc k) (cond b (1 + leading m) 0)
     go true e = omega (arith, e)
     go false e = omega arith
-
--- the head by a count that stops at eight
-module _ (m : List ℕ) {n : ℕ} (counted : n ≡ min 8 (leading m)) where
-  pub too-many : n ≡ 8 → headOf m ≡ refused 14 0
-  unfolding headOf
-  too-many e = let t0 : 7 < leading m = omega arith in simp tests
-
-  pub by-count : (n ≡ 8 → ⊥) → (n ≤ 7) × (headOf m ≡ behind n m)
-  unfolding headOf
-  by-count z = let few : n ≤ 7 = omega arith in (few, ap (λ (k : ℕ). behind k m) (let e : leading m ≡ n = omega arith in e))

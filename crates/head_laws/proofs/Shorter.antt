@@ -16,7 +16,8 @@ use Rattle.delimiters.specs.declared.Fragment.{Fragment}
 use Rattle.delimiters.specs.declared.Fragment.the-variants as F
 use Rattle.mframe.specs.declared.Kind.{Kind}
 use Rattle.mframe.specs.declared.Kind.the-variants as K
-use Rattle.heads.specs.Head.{Reading, known, refused, leading, sizedOf, codedOf, delimitedOf, behind, headOf, isKnown}
+use Rattle.preambles.specs.Preamble.{leading}
+use Rattle.heads.specs.Head.{Reading, known, refused, sizedOf, codedOf, delimitedOf, behind, headOf, isKnown}
 
 -- a test of two numbers, and of both one greater
 ltb-suc : (a b : ℕ) {c d : ℕ} → c ≡ suc a → d ≡ suc b → ltb c d ≡ ltb a b
