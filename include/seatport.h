@@ -59,7 +59,7 @@
  *   4.0  shortened preambles are received. What was written for 3 has to change: an mFrame that is received has 65 to 1,531
  *        octets (72 to 1,530 in 3), so that memory whose size was written as a number has to grow. An area of 1,530 octets
  *        is refused with 18 at every call: a program compiled with the header of 3 and linked with an archive of 4 receives
- *        nothing as octets come. 16 is given no more. 14 is now said of too many 55s, in 3 it was said of too few. 12 and 13
+ *        nothing as octets come. 16 is given no more (below). 14 is now said of too many 55s, in 3 it was said of too few. 12 and 13
  *        count from the header's end and come behind 14, 15 and 17, so that noise, however short or long, is mostly 15. An
  *        express body starts where seatport_express_body says, no longer always at place 8. Sending is as in 3, and what 3
  *        did not refuse is answered as in 3: where no 55 is lost, ports of both versions understand each other. */

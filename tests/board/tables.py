@@ -126,6 +126,37 @@ def as_octets_come(taken):
           f"{octets * 8 / WIRE * 1000:.3f} ms.\n")
 
 
+def instructions(rows):
+    """The rows, each beside its goal, and what follows from them."""
+    print("\nInstructions of one call; of a photograph cut most often, of all calls that send it; of an unknown delimiter, the mean "
+          "over all octets as many bits away; of an octet given by itself, the mean over those of an mFrame\n")
+    lines, taken = [], {}
+    for line in rows:
+        name, octets, ours, theirs, *more = line.split("|")
+        if more:
+            sys.exit(f"{name}: port and plain C {more[0]}")
+        octets, ours, theirs = int(octets), int(ours), int(theirs)
+        taken[name] = ours
+        limit = limit_of(name, octets)
+        if limit is not None and ours > limit * theirs:
+            missed.append(name)
+        lines.append([name, f"{octets:,}", f"{ours:,}", f"{theirs:,}", f"{ours / theirs:.2f}", "none" if limit is None else f"{limit:.2f}"])
+    table(["call", "octets", "port", "plain C", "ratio", "goal"], lines)
+    print("No goal is set for " + "; ".join(sorted(NO_RATIO)) + ": docs/DECISIONS.md, 82.\n")
+    as_octets_come(taken)
+    both_ways(taken["express 1,530 received"] + taken["photograph sent express"])
+
+
+def both_ways(both):
+    """The longest mFrame received and sent, beside the wire's time for one."""
+    wire = 1530 * 8 / WIRE * 1000
+    time = both * CYCLES / CLOCK * 1000
+    print(f"1,530 octets received and 1,530 sent: {both:,} instructions, {time:.3f} ms at {CLOCK // 1_000_000} MHz and "
+          f"{CYCLES} cycles each; the wire takes {wire:.3f} ms for one. Margin {wire - time:.3f} ms, {100 * (1 - time / wire):.0f} %.")
+    if time > wire:
+        missed.append("1,530 octets both ways")
+
+
 def main():
     made = Path(sys.argv[1])
     handed_over, = members(Path(sys.argv[2]).read_bytes())
@@ -150,28 +181,7 @@ def main():
 
     rows = made / "rows"
     if rows.exists():
-        print("\nInstructions of one call; of a photograph cut most often, of all calls that send it; of an unknown delimiter, the mean "
-              "over all octets as many bits away; of an octet given by itself, the mean over those of an mFrame\n")
-        lines, taken = [], {}
-        for line in rows.read_text().splitlines():
-            name, octets, ours, theirs, *more = line.split("|")
-            if more:
-                sys.exit(f"{name}: port and plain C {more[0]}")
-            octets, ours, theirs = int(octets), int(ours), int(theirs)
-            taken[name] = ours
-            limit = limit_of(name, octets)
-            if limit is not None and ours > limit * theirs:
-                missed.append(name)
-            lines.append([name, f"{octets:,}", f"{ours:,}", f"{theirs:,}", f"{ours / theirs:.2f}", "none" if limit is None else f"{limit:.2f}"])
-        table(["call", "octets", "port", "plain C", "ratio", "goal"], lines)
-        as_octets_come(taken)
-        both = taken["express 1,530 received"] + taken["photograph sent express"]
-        wire = 1530 * 8 / WIRE * 1000
-        time = both * CYCLES / CLOCK * 1000
-        print(f"1,530 octets received and 1,530 sent: {both:,} instructions, {time:.3f} ms at {CLOCK // 1_000_000} MHz and "
-              f"{CYCLES} cycles each; the wire takes {wire:.3f} ms for one. Margin {wire - time:.3f} ms, {100 * (1 - time / wire):.0f} %.")
-        if time > wire:
-            missed.append("1,530 octets both ways")
+        instructions(rows.read_text().splitlines())
     if missed:
         print(f"Goals missed: {'; '.join(missed)}.")
     else:

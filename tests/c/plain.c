@@ -1,4 +1,4 @@
-/* Document 01, and document 02, (i) and (iv) to (vi), in plain C; plain.h says what for. */
+/* Document 01, and document 02, (i) to (vi), in plain C; plain.h says what for. */
 #include "plain.h"
 
 #include <string.h>

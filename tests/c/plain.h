@@ -1,5 +1,5 @@
-/* The calls of document 01, as document 02 changes them in (v) and (vi), and those of its (i) and (iv), a second time, in
- * plain C. It shares no code with the port: tests/c/compare.c holds the port against it octet for octet, and the benchmarks
+/* The calls of document 01, as document 02 changes them in (ii), (iii), (v) and (vi), and those of its (i) and (iv), a second
+ * time, in plain C. It shares no code with the port: tests/c/compare.c holds the port against it octet for octet, and the benchmarks
  * measure the port beside it. It is written as one would write it for a small board: a table for the check octets, memcpy,
  * records that the caller keeps, no allocation. */
 #ifndef PLAIN_H

@@ -166,14 +166,12 @@ def lengths(script, chance):
 def with_behind(chance, behind, preamble, script):
     """mFrames of every kind with so many octets behind the header, all of them with good checks; the C fits."""
     data = chance.octets(behind - crc.CHECK_OCTETS)
-    is_long = behind > 1000
     assembly = open_assembly(chance, preamble % 4, 3, 60)
-    # Long ones are asked more sparingly: they make the file large.
-    others = [] if is_long and preamble % 7 else [(start(preamble % 4, data, MORE, preamble), NOT_ASSEMBLING),
-                                                  (late(VERIFY_CODE, data, MORE, preamble), assembly),
-                                                  (late(RESPOND_CODE, data, MORE, preamble), NOT_ASSEMBLING)]
     for octets, open_or_not in [(late(EXPRESS_CODE, data, DONE, preamble), NOT_ASSEMBLING),
-                                (fitting(assembly, data, DONE, preamble), assembly), *others]:
+                                (fitting(assembly, data, DONE, preamble), assembly),
+                                (start(preamble % 4, data, MORE, preamble), NOT_ASSEMBLING),
+                                (late(VERIFY_CODE, data, MORE, preamble), assembly),
+                                (late(RESPOND_CODE, data, MORE, preamble), NOT_ASSEMBLING)]:
         script.want(open_or_not)
         script.give(octets)
 

@@ -167,14 +167,15 @@ def refused_and_dropped(chance, assembly):
 
 
 def shortened_kinds(chance, assembly):
-    """mFrames of each kind behind every number of octets 55, the kinds in turn; the continuations go on from `assembly`."""
+    """mFrames of each kind behind every number of octets 55; the continuations go on from `assembly`."""
     data = chance.octets(60)
-    return [kind(preamble) for preamble in GOOD_PREAMBLES for number, kind in enumerate((
-        lambda preamble: late(EXPRESS_CODE, data, DONE, preamble),
-        lambda preamble: fitting(assembly, data, DONE, preamble),
-        lambda preamble: start(preamble % 4, data, MORE, preamble),
-        lambda preamble: late(VERIFY_CODE, data, MORE, preamble),
-    )) if (preamble + number) % 2 == 0]
+    return [octets for preamble in GOOD_PREAMBLES for octets in (
+        late(EXPRESS_CODE, data, DONE, preamble),
+        fitting(assembly, data, DONE, preamble),
+        start(preamble % 4, data, MORE, preamble),
+        late(VERIFY_CODE, data, MORE, preamble),
+        late(RESPOND_CODE, data, MORE, preamble),
+    )]
 
 
 def every_answer(script, chance):

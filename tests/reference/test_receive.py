@@ -163,7 +163,7 @@ class Questions(unittest.TestCase):
         self.assertEqual(completed[-4:], [check(expected), "0", "0", "00000000"])
 
     def test_sizes_stay_small(self):
-        self.assertLess(sum(len(question) for question in self.questions), 900_000)
+        self.assertLess(sum(len(question) for question in self.questions), 950_000)
         self.assertLess(sum(len(line) + 1 for line in self.answers), 550_000)
 
 

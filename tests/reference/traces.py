@@ -78,7 +78,7 @@ def every_answer(chance):
         mframe.express(data), mframe.start(1, data, fcs), first, second, third, mframe.verify(), mframe.respond(),
         # 12 twice, 13, 14.
         b"", late(0xD5) + bytes(63), late(0xD5) + too_much + crc.fcs(too_much), header(8, 0xD5) + data + fcs,
-        # 15 at place 7 twice and at place 6; C at place 7, E at place 6; 17.
+        # 15 three times; a C behind seven octets 55 and an E behind six, whose heads are good; 17.
         late(0xAD) + data + fcs, late(0x54) + data + fcs, early(0xD4, 0xD5) + data + fcs,
         header(7, 0x2A, 0xE6) + data + mcrc, header(6, 0xD5) + data + fcs, early(0x2A, 0x2A) + data + mcrc,
         # 20 and 21 with the other's check; 22.

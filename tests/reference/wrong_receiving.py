@@ -365,17 +365,15 @@ def behind_one_number(preamble, kind):
     where = f"of {kind} behind {preamble} octets 55"
     if preamble > 7:
         return {f"{where} nothing is 14": testing(PREAMBLE_LONG, lambda head: head.preamble > 7 and not meant(head))}
-    wrong = {
+    return {
         f"{where} all is 14": testing(PREAMBLE_LONG, lambda head: head.preamble > 7 or meant(head)),
         f"{where} 63 octets are enough": too_short(lambda behind, head: behind < 64 - meant(head)),
         f"{where} 64 octets are too few": too_short(lambda behind, head: behind < 64 + meant(head)),
         f"{where} the header ends an octet early": behind_from(
             lambda head: head.preamble + is_continuation(head), meant),
+        f"{where} 1,522 octets are too many": too_long(lambda behind, head: behind > 1522 - meant(head)),
+        f"{where} 1,523 octets are taken": too_long(lambda behind, head: behind > 1522 + meant(head)),
     }
-    if kind in (codes.EXPRESS, codes.CONTINUATION) or preamble in (0, 7):
-        wrong[f"{where} 1,522 octets are too many"] = too_long(lambda behind, head: behind > 1522 - meant(head))
-        wrong[f"{where} 1,523 octets are taken"] = too_long(lambda behind, head: behind > 1522 + meant(head))
-    return wrong
 
 
 KINDS = (codes.EXPRESS, codes.START, codes.CONTINUATION, codes.VERIFY, codes.RESPOND)

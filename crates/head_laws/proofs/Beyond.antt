@@ -1,6 +1,6 @@
 -- More octets than any mFrame has: the head is refused, and the first 1,531 of them decide how.
 -- Assumes nothing.
-use mathlib.Core.Path.{_≡_, refl, sym, ap, ap₂, _∙_}
+use mathlib.Core.Path.{_≡_, refl, sym, ap, _∙_}
 use mathlib.Core.Bool.{Bool, true, false, cond}
 use mathlib.Core.List.{List}
 use Prim.Native.Nat.{ℕ, _+_, _≤_, _<_}
@@ -21,6 +21,9 @@ use Rattle.preambles.specs.Preamble.{leading}
 use Rattle.heads.specs.Head.{Reading, known, refused, sizedOf, codedOf, delimitedOf, behind, headOf}
 use Rattle.preambles.proofs.Leading.{leading-take}
 use Rattle.head_laws.specs.Beyond.{beyond}
+
+many : (n : ℕ) (l : List ℕ) → 7 < n → behind n l ≡ refused 14 0
+many n l h = simp (lt-ltb 7 n h)
 
 module _ (m : List ℕ) (long : 1531 < length m) where
   front : List ℕ
@@ -69,9 +72,6 @@ module _ (m : List ℕ) (long : 1531 < length m) where
       let there : ltb n (length m) ≡ true = lt-ltb n (length m) (omega arith) in
       let front-there : ltb n (length front) ≡ true = lt-ltb n (length front) (omega arith) in
       simp (few, there, front-there, same n (omega arith)) (delimited-beyond (delimiterOf (getD m n 0)) (n + 1) (omega arith))
-
-  many : (n : ℕ) (l : List ℕ) → 7 < n → behind n l ≡ refused 14 0
-  many n l h = simp (lt-ltb 7 n h)
 
   pub head-beyond : headOf m ≡ beyond (headOf (take 1531 m))
   unfolding headOf front

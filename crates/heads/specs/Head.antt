@@ -26,14 +26,14 @@ abbrev pub reading : Head → Reading
 reading (Known kind place) = known kind place
 reading (Refused fault) = refused (faultNumber fault) (faultDetail fault)
 
--- a header that ends at a place, of n octets in all: behind it are 64 to 1,522, else 12 or 13
-abbrev pub sizedOf : Kind → (place n : ℕ) → Reading
-sizedOf kind place n = cond (ltb n (place + 64)) (refused 12 0) (cond (ltb (place + 1522) n) (refused 13 0) (known kind place))
+-- a header that ends at a place, of so many octets in all: behind it are 64 to 1,522, else 12 or 13
+abbrev pub sizedOf : Kind → (place all : ℕ) → Reading
+sizedOf kind place all = cond (ltb all (place + 64)) (refused 12 0) (cond (ltb (place + 1522) all) (refused 13 0) (known kind place))
 
 -- a C whose fragment code is read: 17 is any octet but the four
-abbrev pub codedOf : FrameCount → Fragment → (place n : ℕ) → Reading
-codedOf frame (F.Known fragment) place n = sizedOf (K.Continuation frame fragment) place n
-codedOf frame F.Unknown place n = refused 17 0
+abbrev pub codedOf : FrameCount → Fragment → (place all : ℕ) → Reading
+codedOf frame (F.Known fragment) place all = sizedOf (K.Continuation frame fragment) place all
+codedOf frame F.Unknown place all = refused 17 0
 
 -- a C, with the fragment code at a place; "input that ends before its .. fragment code is 12"
 abbrev pub fragmentedOf : FrameCount → (place : ℕ) → List ℕ → Reading

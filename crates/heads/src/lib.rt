@@ -1,4 +1,4 @@
-// The head of any octets (document 01, "Receiving"): the kind with its counts and where the data begin, or the refusal.
+// The head of any octets (document 01, "Receiving", with the heads of document 02, (vi)): the kind with its counts and where the data begin, or the refusal.
 mod read;
 
 use faults::Fault;

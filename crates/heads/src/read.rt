@@ -62,6 +62,7 @@ fn delimited(delimiter: Delimiter, place: usize, mframe: &[u8]) -> Head
     }
 }
 
+// The head of any octets.
 pub fn head_of(mframe: &[u8]) -> Head
     ensures { λ r. ⌜ reading r ≡ headOf (now (mframe .entry)) ⌝ }
 {

@@ -39,6 +39,6 @@ unfoldable pub preemptableLane : List Given → List (List ℕ)
 preemptableLane [] = []
 preemptableLane (g ∷ gs) = g .preemptable ++ preemptableLane gs
 
--- an "unrefused start of a preemptable frame": 10 to 17 are the refusals
+-- an "unrefused start of a preemptable frame": 10 to 17 are the refusals, of which 16 is no longer given
 unfoldable pub unrefusedStart : Record → List ℕ → List ℕ → Bool
 unrefusedStart r buffer m = not (refusal (receivedOf m r (length buffer) .said .number)) && isStart (headOf m)

@@ -1,12 +1,12 @@
 -- The preamble as two numbers, of places 0 to 3 and of places 2 to 5.
 -- Assumes nothing.
-use mathlib.Core.Path.{_≡_, sym, _∙_}
+use mathlib.Core.Path.{_≡_}
 use mathlib.Core.List.{List}
 use Prim.Native.Nat.{ℕ, _+_, _≤_, _<_}
 use native.Mathlib.Omega.{arith}
 use lib.ListN.{length, getD}
 use Rattle.fours.specs.Word.{wordOf, wordAt}
-use Rattle.preambles.specs.Preamble.{leading, Front}
+use Rattle.preambles.specs.Preamble.{Front}
 use Rattle.preambles.proofs.Leading.{one-more}
 
 abbrev four55 : ℕ
@@ -29,7 +29,8 @@ module _ (m : List ℕ) where
     pub four : Front m 4
     four =
         let w = word-55 (getD m 0 0) (getD m 1 0) (getD m 2 0) (getD m 3 0) (octet 0) (octet 1) (octet 2) (octet 3) first in
-        onward (onward (onward (onward none (omega arith) (omega arith) (w .0)) (omega arith) (omega arith) (w .1 .0)) (omega arith) (omega arith) (w .1 .1 .0)) (omega arith) (omega arith) (w .1 .1 .1)
+        let two = onward (onward none (omega arith) (omega arith) (w .0)) (omega arith) (omega arith) (w .1 .0) in
+        onward (onward two (omega arith) (omega arith) (w .1 .1 .0)) (omega arith) (omega arith) (w .1 .1 .1)
 
     pub six : wordAt m 2 ≡ four55 → Front m 6
     six second =

@@ -11,7 +11,7 @@ unfoldable pub leading : List ℕ → ℕ
 leading [] = 0
 leading (x ∷ m) = cond (eqb x 0x55) (1 + leading m) 0
 
--- n of them, eight at most: the others are those of the octets behind
+-- n of them, eight at most: the others are those of the octets behind (what a step of the count keeps; 0 always is such a number)
 pub record Front (m : List ℕ) (n : ℕ) : Type 0 where
   pub few : n ≤ 8
   pub within : n ≤ length m

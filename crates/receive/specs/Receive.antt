@@ -18,7 +18,7 @@ use Rattle.receiver_record.specs.Records.{inRange}
 use Rattle.outcomes.specs.Outcomes.{Step, told, unchanged}
 use Rattle.assembly.specs.Steps.{stepOf}
 
--- by what the head says: 12 to 17, or by kind, with the octets from where the data begin
+-- by what the head says: 12 to 15 or 17, or by kind, with the octets from where the data begin
 abbrev pub byHead : Reading → List ℕ → Record → Step
 byHead (known kind place) m r = stepOf kind (drop place m) r
 byHead (refused number detail) m r = unchanged (says number detail) r

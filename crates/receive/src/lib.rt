@@ -50,7 +50,7 @@ fn take(kind: Kind, octets: &[u8], record: Record, buffer: &mut [u8]) -> Receive
     got
 }
 
-// One mFrame, as a slice from its first preamble octet to its last check octet.
+// One mFrame, as a slice from its first octet, a 55 or the delimiter, to its last check octet.
 pub fn receive(mframe: &[u8], record: Record, buffer: &mut [u8]) -> Received
     ensures { λ r. ⌜ Answered (now (mframe .entry)) «record» (now (buffer .entry)) r (now (buffer .exit)) ⌝ }
 {

@@ -59,7 +59,7 @@ isContinuation (known Verify place) = false
 isContinuation (known Respond place) = false
 isContinuation (refused number detail) = false
 
--- 10 to 17 are refusals
+-- 10 to 17 are refusals (16 is no longer given)
 abbrev pub refusal : ℕ → Bool
 refusal n = leb 10 n && leb n 17
 

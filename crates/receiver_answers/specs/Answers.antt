@@ -17,7 +17,7 @@ pub record Said : Type 0 where
 abbrev pub says : ℕ → ℕ → Said
 says number detail = record { number = number; detail = detail }
 
--- 12 to 17 are those of the head
+-- 12 to 15 and 17 are those of the head
 abbrev pub refusalNumber : Refusal → ℕ
 refusalNumber R.Buffer = 10
 refusalNumber R.Record = 11

@@ -3,7 +3,7 @@ use faults::Fault;
 ghost use mathlib.Core.Path.{_≡_};
 ghost use Rattle.receiver_answers.specs.Answers.{refusalNumber, refusalDetail, dropNumber, said};
 
-// Why an mFrame is refused: 10, 11, and 12 to 17 by its head.
+// Why an mFrame is refused: 10, 11, and by its head 12 to 15 and 17.
 pub enum Refusal {
     Buffer,
     Record,
@@ -20,7 +20,7 @@ pub enum Drop {
     Damaged,
 }
 
-// The numbered answers: 0 and 1 with the body's length, 2 with the octets kept, 3, 4, 10 to 17, 20 to 25.
+// The numbered answers: 0 and 1 with the body's length, 2 with the octets kept, 3, 4, 10 to 15, 17, 20 to 25.
 pub enum Answer {
     Express(usize),
     Delivered(usize),

@@ -3,7 +3,7 @@
 use mathlib.Core.Path.{_≡_, refl, sym, ap, ap₂, subst, _∙_}
 use mathlib.Core.Bool.{Bool, true, false, cond, _&&_}
 use mathlib.Core.List.{List, [], _∷_}
-use Prim.Native.Nat.{ℕ, _-_, _≤_, _<_}
+use Prim.Native.Nat.{ℕ, _-_, _≤_}
 use native.Mathlib.Nat.{sub-zero}
 use native.Mathlib.Omega.{arith}
 use borrow.Author.Tests.{le-ltb, ne-eqb}
@@ -18,10 +18,10 @@ use Rattle.outcomes.specs.Outcomes.{Step}
 use Rattle.receiver_words.specs.Receiver.{receiverWords, receiverFits, receiverOf}
 use Rattle.receiver_words.proofs.Laws.{receiver-written}
 use Rattle.stream.specs.declared.Given.the-variants.{End}
-use Rattle.stream.specs.Stream.{most, unsound, heard, isCut, Turn, streamOf}
+use Rattle.stream.specs.Stream.{most, unsound, heard, runsOver, Turn, streamOf}
 use Rattle.stream.proofs.Laws.{long-received, long-buffer}
-use Rattle.stream.proofs.Heard.{cut-long, kept-alike}
-use Rattle.words.specs.Words.{word}
+use Rattle.stream.proofs.Heard.{over-long, kept-alike}
+use Rattle.words.specs.Words.{word, flagAt}
 use Rattle.stream_words.specs.State.{stateOf, stateWords, refusalOf, tooLong}
 use Rattle.stream_words.proofs.Laws.{passed, state-written, numberOf, detailOf}
 use Rattle.seatport.specs.Receiving.{Receiving, Received, told, unfit, receivingOf}
@@ -67,7 +67,7 @@ alike-words : (w m m′ b : List ℕ) → ((r : Record) (room : ℕ) → receive
 unfolding receivingOf
 alike-words w m m′ b f g = rw (f (receiverOf w) (length b), g (receiverOf w) b)
 
--- an end: refused; of a run that is cut; of one that is not
+-- an end: refused; of an mFrame that runs over; of one that does not
 module _ (v area w b : List ℕ) where
   pub refused-end : {number : ℕ} → (number ≡ 0 → ⊥) → number ≡ refusalOf v (length area) → Ended (endOf v area w b) number v 0 w b
   unfolding endOf
@@ -75,19 +75,21 @@ module _ (v area w b : List ℕ) where
       simp (ne-eqb (refusalOf v (length area)) 0 (λ q. some (e ∙ q))) (record { answer = e; state = refl; value = refl; after = refl; octets = refl })
 
   module _ (none : refusalOf v (length area) ≡ 0) where
-    pub ended-long : {number : ℕ} → isCut (stateOf v) area ≡ true → length w ≡ 9 → number ≡ tooLong w (length b) → Ended (endOf v area w b) number (0 ∷ 0 ∷ []) 0 w b
+    pub ended-long : {number count : ℕ} → runsOver (flagAt v 1) (take (count - 0) area) ≡ true → count ≡ word v 0 → length w ≡ 9 → number ≡ tooLong w (length b) → Ended (endOf v area w b) number (0 ∷ 0 ∷ []) 0 w b
     unfolding endOf numbered
-    ended-long cut nine e =
+    ended-long {number} {count} over c nine e =
         let p = passed v (length area) none in
-        let l = long-words w (heard (stateOf v) area) b nine (cut-long (stateOf v) (p .sound) area (p .roomy) cut) in
+        let o : runsOver (flagAt v 1) (take (word v 0) area) ≡ true = rw (← c, ← sub-zero count) over in
+        let l = long-words w (heard (stateOf v) area) b nine (over-long (stateOf v) (p .sound) area (p .roomy) o) in
         simp (none, l) (record { answer = e; state = refl; value = refl; after = refl; octets = refl })
 
-    pub ended : {number detail count : ℕ} {receiver b′ : List ℕ} → isCut (stateOf v) area ≡ false → count ≡ word v 0
+    pub ended : {number detail count : ℕ} {receiver b′ : List ℕ} → runsOver (flagAt v 1) (take (count - 0) area) ≡ false → count ≡ word v 0
         → Received (receivingOf w (take (count - 0) area) b) number detail receiver b′ → Ended (endOf v area w b) number (0 ∷ 0 ∷ []) detail receiver b′
     unfolding endOf
-    ended {number} {detail} {count} {receiver} {b′} cut e h =
+    ended {number} {detail} {count} {receiver} {b′} over e h =
         let p = passed v (length area) none in
-        let same = kept-alike (stateOf v) (p .sound) area (p .roomy) cut in
+        let o : runsOver (flagAt v 1) (take (word v 0) area) ≡ false = rw (← e, ← sub-zero count) over in
+        let same = kept-alike (stateOf v) (p .sound) area (p .roomy) o in
         let kept : Received (receivingOf w (take (word v 0) area) b) number detail receiver b′ = rw (← e, ← sub-zero count) h in
         let r : Received (receivingOf w (heard (stateOf v) area) b) number detail receiver b′ =
         subst (λ (t : Receiving). Received t number detail receiver b′) (alike-words w (take (word v 0) area) (heard (stateOf v) area) b (same .0) (same .1)) kept in

@@ -27,9 +27,10 @@ pub extern "C" fn seatport_end(
         return refusal;
     }
     *stream = [0, 0];
-    if stream::is_cut(stream_words::state_of(words), area) {
+    let count = words::wide(words[0]);
+    let kept = &area[0..count];
+    if stream::runs_over(words[1] == 1, kept) {
         return stream_words::too_long(*receiver, buffer.len());
     }
-    let count = words::wide(words[0]);
-    seatport_receive(receiver, &area[0..count], buffer, detail)
+    seatport_receive(receiver, kept, buffer, detail)
 }

@@ -60,13 +60,19 @@ module _ (m m′ : List ℕ) (same : take most m ≡ take most m′) (more : ltb
 
   -- the head of those with more
   module _ (e : ltb most (length m) ≡ true) where
-    by-kept : beyond (headOf (take most m)) ≡ refused (beyond-refused (headOf (take most m)) .0) (beyond-refused (headOf (take most m)) .1 .0)
+    abbrev number : ℕ
+    number = beyond-refused (headOf (take most m)) .0
+
+    abbrev detail : ℕ
+    detail = beyond-refused (headOf (take most m)) .1 .0
+
+    by-kept : beyond (headOf (take most m)) ≡ refused number detail
     by-kept = beyond-refused (headOf (take most m)) .1 .1
 
-    one : headOf m ≡ refused (beyond-refused (headOf (take most m)) .0) (beyond-refused (headOf (take most m)) .1 .0)
+    one : headOf m ≡ refused number detail
     one = head-beyond m (ltb-true _ _ e) ∙ by-kept
 
-    other : headOf m′ ≡ refused (beyond-refused (headOf (take most m)) .0) (beyond-refused (headOf (take most m)) .1 .0)
+    other : headOf m′ ≡ refused number detail
     other = head-beyond m′ (ltb-true _ _ (sym more ∙ e)) ∙ ap (λ (l : List ℕ). beyond (headOf l)) (sym same) ∙ by-kept
 
   pub suffice-received : (r : Record) (room : ℕ) → receivedOf m r room ≡ receivedOf m′ r room

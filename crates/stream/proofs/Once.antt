@@ -15,7 +15,7 @@ use Rattle.stream.specs.declared.Refusal.the-variants as R
 use Rattle.stream.specs.declared.Reply.{Reply}
 use Rattle.stream.specs.declared.Reply.the-variants.{Waits, Refused, Answered}
 use Rattle.stream.specs.declared.Streamed.{Streamed}
-use Rattle.stream.specs.Stream.{number, unsound, isCut, counted, stored, Saying, waits, refuses, answers, saying, Turn, Streams}
+use Rattle.stream.specs.Stream.{number, unsound, runsOver, counted, stored, Saying, waits, refuses, answers, saying, Turn, Streams}
 
 -- Refusal::number
 pub number-once : (why : Refusal) {x y : ℕ} → x ≡ number why → y ≡ number why → x ≡ y
@@ -68,9 +68,9 @@ saying-one (Answered a) (Refused R.Area) e = absurd (let n : 0 ≡ 18 = ap refus
 saying-one (Answered a) (Refused R.State) e = absurd (let n : 0 ≡ 19 = ap refusing e in let y : ⊥ = omega arith in y)
 saying-one (Answered a) (Answered b) e = ap Answered (said-one (ap answering e))
 
--- is_cut
-pub is-cut-once : (s : State) (area : List ℕ) {x y : Bool} → x ≡ isCut s area → y ≡ isCut s area → x ≡ y
-is-cut-once s area p q = p ∙ sym q
+-- runs_over
+pub runs-over-once : (more : Bool) (kept : List ℕ) {x y : Bool} → x ≡ runsOver more kept → y ≡ runsOver more kept → x ≡ y
+runs-over-once more kept p q = p ∙ sym q
 
 -- stream: the reply, the state, the record, and each octet of the area and of the buffer
 pub stream-once : (t : Turn) {x y : Streamed} {p q c d : List ℕ} → Streams t x p c → Streams t y q d → (x ≡ y) × ((p ≡ q) × (c ≡ d))

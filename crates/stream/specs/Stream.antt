@@ -49,9 +49,10 @@ stored octet s area = cond (ltb (s .count) most) (laid area (s .count) (octet �
 abbrev pub heard : State → List ℕ → List ℕ
 heard s area = cond (s .more) (take (s .count) area ++ 0 ∷ []) (take (s .count) area)
 
--- where there were more, those kept decide the head: they refuse it, or would begin an mFrame, which is then too long
-abbrev pub isCut : State → List ℕ → Bool
-isCut s area = s .more && isKnown (headOf (take most area))
+-- where there were more, the octets kept decide the head: it is refused by them, or they are an mFrame, which then runs over and is too long (the
+-- longest there is: seven octets 55, a C, its fragment code and 1,522)
+abbrev pub runsOver : (more : Bool) (kept : List ℕ) → Bool
+runsOver more kept = more && isKnown (headOf kept)
 
 -- what the first receiver answers to that: 10, 11, then 13
 abbrev pub longOf : Record → ℕ → Said

@@ -2,7 +2,7 @@
 // first receiver answers to all of them.
 mod ending;
 
-pub use ending::is_cut;
+pub use ending::runs_over;
 use receiver_answers::Answer;
 use receiver_record::Record;
 ghost use mathlib.Core.Path.{_≡_};

@@ -46,6 +46,6 @@ pub record Octet (p : Keeping) (number : ℕ) (stream area : List ℕ) : Type 0 
   pub state : stream ≡ p .stream
   pub octets : area ≡ p .area
 
--- what the first receiver answers to a run that is cut, more octets than an mFrame can have: 10, then 11, which words that are no record's get too, then 13
+-- what the first receiver answers to an mFrame that runs over: 10, then 11, which words that are no record's get too, then 13
 unfoldable pub tooLong : List ℕ → ℕ → ℕ
 tooLong w room = cond (ltb room 1518) 10 (cond (receiverFits w && inRange (receiverOf w)) 13 11)

@@ -59,7 +59,7 @@ pub fn octet(stream: &mut [u32; 2], area: &mut [u8], octet: u8) -> u32
     0
 }
 
-// What the first receiver answers to a run that is cut (`stream::is_cut`), by the words of its record; it changes nothing.
+// What the first receiver answers to an mFrame that runs over, by the words of its record; it changes nothing.
 // That the words are nine is told for callers, who lend them.
 pub fn too_long(receiver: [u32; 9], room: usize) -> u32
     ensures { λ n. ⌜ (n ≡ tooLong receiver room) × (length receiver ≡ 9) ⌝ }

@@ -1,9 +1,6 @@
 -- `heads::read::is_known` meets its contract.
 -- Assumes nothing.
-use mathlib.Core.Path.{sym, ap, _∙_}
 use borrow.Author.Needs.{needs}
-use Rattle.heads.specs.Head.{reading, isKnown}
-use Rattle.heads.specs.declared.Head.{Head}
 use Rattle.heads.proofs.read.is_known.Statement.{statement}
 use Rattle.heads.proofs.read.is_known.Tie as tie
 
