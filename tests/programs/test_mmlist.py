@@ -72,9 +72,10 @@ class Length(unittest.TestCase):
         trace, _ = stored("long")
         records = 20_000
         _, small = fed([trace])
-        listing, large = fed(trace for _ in range(70))
-        self.assertGreater(70 * len(trace), 100_000_000)
-        self.assertEqual(listing.count(b"\n"), 70 * records + 2)
+        times = 80
+        listing, large = fed(trace for _ in range(times))
+        self.assertGreater(times * len(trace), 100_000_000)
+        self.assertEqual(listing.count(b"\n"), times * records + 2)
         self.assertLess(large, small + 1024)
 
 
