@@ -20,7 +20,7 @@ CALLS = {10, 30, 51, 102}  # R_ARM_THM_CALL, _JUMP24, _JUMP19, _JUMP11: all by w
 MEMORY = 12 * 1024
 STACK = 1024
 LONG, LONG_RATIO, SHORT_RATIO = 256, 0.75, 1.25
-# A refusal that looks at eight octets shows what taking the record in and out costs; there is no work in it to be compared.
+# It would miss the goal of short rows, and was left without one when that was seen: docs/DECISIONS.md, 82.
 NO_RATIO = {"eight 55s received"}
 WIRE, GAP = 10_000_000, 12
 CLOCK, CYCLES = 48_000_000, 2
