@@ -1,2 +1,4 @@
 pub mod Inside
 pub mod Readback
+pub mod Rest
+pub mod Whole

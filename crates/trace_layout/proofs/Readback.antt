@@ -2,14 +2,14 @@
 -- Assumes nothing.
 use mathlib.Core.Path.{_≡_, refl, sym, ap, ap₂, _∙_}
 use mathlib.Core.List.{List, [], _∷_, _++_, append-assoc, append-nil}
-use Prim.Native.Nat.{ℕ, zero, suc, _+_, _/_, _%_, _≤_, _<_}
+use Prim.Native.Nat.{ℕ, zero, suc, _+_, _-_, _/_, _%_, _≤_, _<_}
 use native.Mathlib.Omega.{arith}
 use lib.ListN.{length, take, drop, getD, length-append}
 use lib.Seq.{getD-append-seam, getD-append-add, take-append-seam, drop-append-add, take-suc, split-at}
 use Rattle.rules.proofs.Tests.{never}
 use Rattle.trace.specs.Trace.{header, limit, kind, Said, found, ended, refused, littleEndian, lengthAt, kindAt, readAt}
 use Rattle.trace.proofs.Laws.{read-end, read-whole}
-use Rattle.trace_layout.specs.Layout.{recordOf, traceOf, placeOf, Listing, onward, readFrom, readAll}
+use Rattle.trace_layout.specs.Layout.{recordOf, traceOf, placeOf, Listing, onward, listFrom, readAll}
 use Rattle.trace_layout.proofs.Inside.{found-inside}
 
 -- two octets give their number back
@@ -44,8 +44,8 @@ end-read s = read-end s (length s) (omega arith)
 
 -- the records from a place on, behind any octets, are read one after the other up to the end
 rest-read : (n : ℕ) (before : List ℕ) (cs : List (List ℕ)) → ((i : ℕ) → length (getD cs i []) ≤ limit) → length (traceOf cs) ≤ n
-    → readFrom n (before ++ traceOf cs) (length before) ≡ record { contents = cs; stop = ended }
-unfolding traceOf readFrom
+    → listFrom (readAt (before ++ traceOf cs)) (before ++ traceOf cs) n (length before) ≡ record { contents = cs; stop = ended }
+unfolding traceOf listFrom
 rest-read zero before [] f h = rw (append-nil before, end-read before) refl
 rest-read (suc n) before [] f h = rw (append-nil before, end-read before) refl
 rest-read zero before (c ∷ cs) f h = absurd (let z : ⊥ = omega arith in z)
@@ -53,15 +53,15 @@ rest-read (suc n) before (c ∷ cs) f h =
     let s : List ℕ = before ++ (recordOf c ++ traceOf cs) in
     let shorter : length (traceOf cs) ≤ n = omega (arith, length-append c (traceOf cs)) in
     let next : length (before ++ recordOf c) ≡ length before + header + length c = simp length-append (omega arith) in
-    let rest : readFrom n s (length before + header + length c) ≡ record { contents = cs; stop = ended } =
-    ap₂ (readFrom n) (sym (append-assoc before (recordOf c) (traceOf cs))) (sym next)
+    let rest : listFrom (readAt s) s n (length before + header + length c) ≡ record { contents = cs; stop = ended } =
+    ap₂ (λ (x : List ℕ) (at : ℕ). listFrom (readAt x) x n at) (sym (append-assoc before (recordOf c) (traceOf cs))) (sym next)
     ∙ rest-read n (before ++ recordOf c) cs (λ i. f (suc i)) shorter in
-    ap (onward s (readFrom n s)) (record-read before c (traceOf cs) (f 0))
+    ap (onward s (listFrom (readAt s) s n)) (record-read before c (traceOf cs) (f 0))
     ∙ ap₂ (λ (x : List ℕ) (l : Listing). record { contents = x ∷ l .contents; stop = l .stop }) (content-read before c (traceOf cs)) rest
 
 -- all of a trace
 pub read-back : (cs : List (List ℕ)) → ((i : ℕ) → length (getD cs i []) ≤ limit) → readAll (traceOf cs) ≡ record { contents = cs; stop = ended }
-read-back cs f = rest-read (length (traceOf cs)) [] cs f (omega arith)
+read-back cs f = rest-read (length (traceOf cs) - 0) [] cs f (omega arith)
 
 -- each record of a trace, at its place
 trace-append : (xs ys : List (List ℕ)) → traceOf (xs ++ ys) ≡ traceOf xs ++ traceOf ys
@@ -97,10 +97,10 @@ onward-stops s at rest f (found place n next) e = let w = found-inside s at plac
 onward-stops s at rest f ended e = λ place n next p. never (cc)
 onward-stops s at rest f (refused k) e = λ place n next p. never (cc)
 
-reading-stops : (n : ℕ) (s : List ℕ) (at : ℕ) → length s ≤ at + n → Stops (readFrom n s at)
-unfolding readFrom
+reading-stops : (n : ℕ) (s : List ℕ) (at : ℕ) → length s ≤ at + n → Stops (listFrom (readAt s) s n at)
+unfolding listFrom
 reading-stops zero s at h = λ place n next p. let e = read-end s at (omega arith) in never (cc)
-reading-stops (suc n) s at h = onward-stops s at (readFrom n s) (λ next b. reading-stops n s next (omega arith)) (readAt s at) refl
+reading-stops (suc n) s at h = onward-stops s at (listFrom (readAt s) s n) (λ next b. reading-stops n s next (omega arith)) (readAt s at) refl
 
 pub read-all-stops : (s : List ℕ) (place n next : ℕ) → readAll s .stop ≡ found place n next → ⊥
-read-all-stops s = reading-stops (length s) s 0 (omega arith)
+read-all-stops s = reading-stops (length s - 0) s 0 (omega arith)

@@ -1,7 +1,7 @@
--- Contents laid out as a trace, and a trace read to its end.
+-- Contents laid out as a trace, and a trace, or whatever else is read record by record, read to its end.
 -- Assumes nothing.
 use mathlib.Core.List.{List, [], _∷_, _++_}
-use Prim.Native.Nat.{ℕ, zero, suc, _/_, _%_}
+use Prim.Native.Nat.{ℕ, zero, suc, _-_, _/_, _%_}
 use lib.ListN.{length, take, drop}
 use Rattle.trace.specs.Trace.{kind, Said, found, ended, refused, readAt}
 
@@ -32,11 +32,15 @@ onward s rest (found place n next) = record { contents = take n (drop place s) �
 onward s rest ended = record { contents = []; stop = ended }
 onward s rest (refused k) = record { contents = []; stop = refused k }
 
--- reading from a place on, n records at most
-unfoldable pub readFrom : ℕ → List ℕ → ℕ → Listing
-readFrom zero s at = record { contents = []; stop = readAt s at }
-readFrom (suc n) s at = onward s (readFrom n s) (readAt s at)
+-- reading from a place on, n records at most; read says what stands at a place
+unfoldable pub listFrom : (ℕ → Said) → List ℕ → ℕ → ℕ → Listing
+listFrom read s zero at = record { contents = []; stop = read at }
+listFrom read s (suc n) at = onward s (listFrom read s n) (read at)
 
--- reading from the start on to the end or a refusal: a trace has no more records than octets
+-- reading from a place on to the end or a refusal: there are no more records than octets
+abbrev pub restFrom : (ℕ → Said) → List ℕ → ℕ → Listing
+restFrom read s at = listFrom read s (length s - at) at
+
+-- all of a trace
 abbrev pub readAll : List ℕ → Listing
-readAll s = readFrom (length s) s 0
+readAll s = restFrom (readAt s) s 0
