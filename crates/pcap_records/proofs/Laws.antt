@@ -1,14 +1,17 @@
--- Laws of reading at a place: when each answer is given.
+-- Laws of reading: when each answer is given of a place, and what a capture has that is opened.
 -- Assumes nothing.
-use mathlib.Core.Path.{_≡_, ap, _∙_}
+use mathlib.Core.Path.{_≡_, refl, ap, _∙_}
+use mathlib.Core.Bool.{Bool, true, false, cond}
 use mathlib.Core.List.{List}
 use Prim.Native.Nat.{ℕ, _+_, _≤_, _<_}
 use native.Mathlib.Omega.{arith}
+use borrow.Author.Tests.{ltb-false}
+use lib.Dec.{ltb}
 use lib.ListN.{length}
-use Rattle.rules.proofs.Tests.{tests}
+use Rattle.rules.proofs.Tests.{tests, never}
 use Rattle.trace.specs.Trace.{limit, found, ended, refused, left}
 use Rattle.pcap_fields.specs.declared.Order.{Order}
-use Rattle.pcap_records.specs.Records.{header, storedAt, originalAt, recordAt}
+use Rattle.pcap_records.specs.Records.{fileHeader, header, Opening, opens, shut, openOf, storedAt, originalAt, recordAt}
 
 -- the answers, in the order of the tests
 module _ (o : Order) (s : List ℕ) (at : ℕ) where
@@ -46,3 +49,12 @@ module _ (o : Order) (s : List ℕ) (at : ℕ) where
   read-whole n e f h a d =
       let same : storedAt o s at ≡ originalAt o s at = omega arith in
       whole h (omega arith) same (omega arith) ∙ ap (λ (k : ℕ). found (at + header) k (at + header + k)) e
+
+-- a capture that is opened has all of its header
+past-cut : (b : Bool) (x : Opening) (o : Order) → cond b (shut 70) x ≡ opens o → b ≡ false
+past-cut true x o e = never (cc)
+past-cut false x o e = refl
+
+pub open-long : (s : List ℕ) (o : Order) → openOf s ≡ opens o → fileHeader ≤ length s
+unfolding openOf
+open-long s o e = ltb-false (length s) fileHeader (past-cut (ltb (length s) fileHeader) _ o e)

@@ -16,39 +16,39 @@ use Rattle.pcap_records.specs.declared.Refusal.{Refusal}
 use Rattle.pcap_records.specs.declared.Refusal.the-variants.{FileHeader, Magic, Version, LinkType, Header, Length, Original, Content}
 
 -- no two refusals have one number
-abbrev numbered : ℕ → Refusal
-numbered k =
+abbrev pub refusalOf : ℕ → Refusal
+refusalOf k =
     cond (eqb k 70) FileHeader (cond (eqb k 71) Magic (cond (eqb k 72) Version (cond (eqb k 73) LinkType
     (cond (eqb k 74) Header (cond (eqb k 75) Length (cond (eqb k 76) Original Content))))))
 
-known : (q : Refusal) → numbered (refusalNumber q) ≡ q
-known FileHeader = refl
-known Magic = refl
-known Version = refl
-known LinkType = refl
-known Header = refl
-known Length = refl
-known Original = refl
-known Content = refl
+pub refusal-back : (q : Refusal) → refusalOf (refusalNumber q) ≡ q
+refusal-back FileHeader = refl
+refusal-back Magic = refl
+refusal-back Version = refl
+refusal-back LinkType = refl
+refusal-back Header = refl
+refusal-back Length = refl
+refusal-back Original = refl
+refusal-back Content = refl
 
 -- no two answers are said alike: what is said gives the answer back
 abbrev unopened : Opening → Opened
 unopened (opens o) = O.Good o
-unopened (shut k) = O.Refused (numbered k)
+unopened (shut k) = O.Refused (refusalOf k)
 
 open-back : (r : Opened) → unopened (opening r) ≡ r
 open-back (O.Good o) = refl
-open-back (O.Refused q) = ap O.Refused (known q)
+open-back (O.Refused q) = ap O.Refused (refusal-back q)
 
 abbrev unsaid : Said → Read
 unsaid (found place n next) = R.Record place n next
 unsaid ended = R.End
-unsaid (refused k) = R.Refused (numbered k)
+unsaid (refused k) = R.Refused (refusalOf k)
 
 back : (r : Read) → unsaid (said r) ≡ r
 back (R.Record place n next) = refl
 back R.End = refl
-back (R.Refused q) = ap R.Refused (known q)
+back (R.Refused q) = ap R.Refused (refusal-back q)
 
 -- Refusal::number
 pub number-once : (q : Refusal) {x y : ℕ} → x ≡ refusalNumber q → y ≡ refusalNumber q → x ≡ y

@@ -12,19 +12,26 @@ use Rattle.trace.specs.declared.Read.the-variants.{Record, End, Refused}
 use Rattle.trace.specs.declared.Refusal.{Refusal}
 use Rattle.trace.specs.declared.Refusal.the-variants.{Header, Length, Kind, Content}
 
+-- no two refusals have one number
+abbrev pub refusalOf : ℕ → Refusal
+refusalOf k = cond (eqb k 50) Header (cond (eqb k 51) Length (cond (eqb k 52) Kind Content))
+
+pub refusal-back : (q : Refusal) → refusalOf (refusalNumber q) ≡ q
+refusal-back Header = refl
+refusal-back Length = refl
+refusal-back Kind = refl
+refusal-back Content = refl
+
 -- no two answers are said alike: what is said gives the answer back
 abbrev unsaid : Said → Read
 unsaid (found place n next) = Record place n (record { at = next })
 unsaid ended = End
-unsaid (refused k) = Refused (cond (eqb k 50) Header (cond (eqb k 51) Length (cond (eqb k 52) Kind Content)))
+unsaid (refused k) = Refused (refusalOf k)
 
 back : (r : Read) → unsaid (said r) ≡ r
 back (Record place n next) = refl
 back End = refl
-back (Refused Header) = refl
-back (Refused Length) = refl
-back (Refused Kind) = refl
-back (Refused Content) = refl
+back (Refused q) = ap Refused (refusal-back q)
 
 -- Refusal::number
 pub number-once : (q : Refusal) {x y : ℕ} → x ≡ refusalNumber q → y ≡ refusalNumber q → x ≡ y

@@ -9,6 +9,8 @@ use borrow.Author.Tests.{ltb-false, eqb-true, not-false}
 use lib.Dec.{ltb, eqb}
 use lib.ListN.{length}
 use Rattle.rules.proofs.Tests.{never}
+use Rattle.trace.proofs.Laws.{read-end}
+use Rattle.trace_layout.proofs.Rest.{Reading}
 use Rattle.trace.specs.Trace.{header, limit, kind, Said, found, ended, refused, lengthAt, kindAt, left, readAt}
 
 -- where a record that is found lies: its content right behind the header, the next record right behind the content, all of it in the trace;
@@ -71,3 +73,11 @@ ended-over s at p =
     let e = over (eqb (left s at) 0) (ltb (left s at) header) (ltb limit (lengthAt s at)) (not (eqb (kindAt s at) kind)) (ltb (left s (at + header)) (lengthAt s at)) 50 51 52 53 (at + header) (lengthAt s at) (at + header + lengthAt s at) p in
     let z : left s at ≡ 0 = eqb-true (left s at) 0 e in
     omega arith
+
+-- so a trace is read on and on up to its end
+pub trace-reading : (s : List ℕ) → Reading (readAt s) s
+trace-reading s =
+    record {
+      ends = λ at h. read-end s at h;
+      grows = λ at place n next e. let w = found-inside s at place n next e in omega arith;
+    }

@@ -1,4 +1,5 @@
 pub mod Inside
+pub mod Laid
 pub mod Readback
 pub mod Rest
 pub mod Whole

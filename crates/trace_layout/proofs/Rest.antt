@@ -5,6 +5,7 @@ use mathlib.Core.List.{List, [], _∷_}
 use Prim.Native.Nat.{ℕ, zero, suc, _+_, _-_, _≤_, _<_}
 use native.Mathlib.Omega.{arith}
 use lib.ListN.{length, take, drop}
+use Rattle.rules.proofs.Tests.{never}
 use Rattle.trace.specs.Trace.{Said, found, ended, refused}
 use Rattle.trace_layout.specs.Layout.{Listing, onward, listFrom, restFrom}
 
@@ -50,3 +51,26 @@ module _ (read : ℕ → Said) (s : List ℕ) (w : Reading read s) where
 
   pub rest-refused : (at q : ℕ) → read at ≡ refused q → restFrom read s at ≡ record { contents = []; stop = refused q }
   rest-refused at q e = step at ∙ ap (onward s (restFrom read s)) e
+
+  -- what holds where nothing more is found, and before a record if it holds behind it, holds everywhere
+  module _ (P : ℕ → Type 0) (f : (at place n next : ℕ) → read at ≡ found place n next → P next → P at)
+      (e : (at : ℕ) → read at ≡ ended → P at) (r : (at q : ℕ) → read at ≡ refused q → P at) where
+    by-said : (at : ℕ) → ((next : ℕ) → at < next → P next) → (t : Said) → read at ≡ t → P at
+    by-said at g (found place n next) h = f at place n next h (g next (w .grows at place n next h))
+    by-said at g ended h = e at h
+    by-said at g (refused q) h = r at q h
+
+    within : (m at : ℕ) → length s ≤ at + m → P at
+    within zero at h = e at (w .ends at (omega arith))
+    within (suc m) at h = by-said at (λ next b. within m next (omega arith)) (read at) refl
+
+    pub everywhere : (at : ℕ) → P at
+    everywhere at = within (length s) at (omega arith)
+
+  -- reading stops at the end or at a refusal
+  pub rest-stops : (at place n next : ℕ) → restFrom read s at .stop ≡ found place n next → ⊥
+  rest-stops =
+      everywhere (λ (at : ℕ). (place n next : ℕ) → restFrom read s at .stop ≡ found place n next → ⊥)
+      (λ at place n next e h a b d z. h a b d (sym (ap (λ (l : Listing). l .stop) (rest-found at place n next e)) ∙ z))
+      (λ at e a b d z. let x : ended ≡ found a b d = sym (ap (λ (l : Listing). l .stop) (rest-ended at e)) ∙ z in never (cc))
+      (λ at q e a b d z. let x : refused q ≡ found a b d = sym (ap (λ (l : Listing). l .stop) (rest-refused at q e)) ∙ z in never (cc))

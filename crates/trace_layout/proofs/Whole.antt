@@ -9,17 +9,9 @@ use lib.Seq.{drop-drop, length-take-le}
 use Rattle.rules.proofs.Tests.{never}
 use Rattle.fours.proofs.Words.{four-of}
 use Rattle.trace.specs.Trace.{header, limit, kind, Said, found, ended, refused, littleEndian, lengthAt, kindAt, readAt}
-use Rattle.trace.proofs.Laws.{read-end}
 use Rattle.trace_layout.specs.Layout.{recordOf, traceOf, Listing, restFrom, readAll}
-use Rattle.trace_layout.proofs.Inside.{found-inside, ended-over}
-use Rattle.trace_layout.proofs.Rest.{Reading, rest-found, rest-ended, rest-refused}
-
-pub trace-reading : (s : List ℕ) → Reading (readAt s) s
-trace-reading s =
-    record {
-      ends = λ at h. read-end s at h;
-      grows = λ at place n next e. let w = found-inside s at place n next e in omega arith;
-    }
+use Rattle.trace_layout.proofs.Inside.{found-inside, ended-over, trace-reading}
+use Rattle.trace_layout.proofs.Rest.{rest-found, rest-ended, rest-refused, everywhere}
 
 -- two octets that make a number are its octets
 two-of : (a b n : ℕ) → a < 256 → b < 256 → littleEndian a b ≡ n → (a ≡ n % 256) × (b ≡ n / 256 % 256)
@@ -46,27 +38,23 @@ module _ (s : List ℕ) (o : (k : ℕ) → getD s k 0 < 256) where
   abbrev Whole : ℕ → Type 0
   Whole at = restFrom (readAt s) s at .stop ≡ ended → traceOf (restFrom (readAt s) s at .contents) ≡ drop at s
 
-  over : (at : ℕ) → length s ≤ at → Whole at
+  found-whole : (at place n next : ℕ) → readAt s at ≡ found place n next → Whole next → Whole at
   unfolding traceOf
-  over at h z =
-      ap (λ (l : Listing). traceOf (l .contents)) (rest-ended (readAt s) s (trace-reading s) at (read-end s at h)) ∙ sym (drop-of-length-le s h)
-
-  by-said : (at : ℕ) → ((next : ℕ) → at < next → Whole next) → (t : Said) → readAt s at ≡ t → Whole at
-  unfolding traceOf
-  by-said at f (found place n next) e z =
+  found-whole at place n next e h z =
       let r = rest-found (readAt s) s (trace-reading s) at place n next e in
-      let c : List ℕ = take n (drop place s) in
       ap (λ (l : Listing). traceOf (l .contents)) r
-      ∙ ap (λ (x : List ℕ). recordOf c ++ x) (f next (trace-reading s .grows at place n next e) (sym (ap (λ (l : Listing). l .stop) r) ∙ z))
+      ∙ ap (λ (x : List ℕ). recordOf (take n (drop place s)) ++ x) (h (sym (ap (λ (l : Listing). l .stop) r) ∙ z))
       ∙ sym (record-whole at place n next e)
-  by-said at f ended e z = over at (ended-over s at e) z
-  by-said at f (refused q) e z =
+
+  ended-whole : (at : ℕ) → readAt s at ≡ ended → Whole at
+  unfolding traceOf
+  ended-whole at e z =
+      ap (λ (l : Listing). traceOf (l .contents)) (rest-ended (readAt s) s (trace-reading s) at e) ∙ sym (drop-of-length-le s (ended-over s at e))
+
+  refused-whole : (at q : ℕ) → readAt s at ≡ refused q → Whole at
+  refused-whole at q e z =
       let x : refused q ≡ ended = sym (ap (λ (l : Listing). l .stop) (rest-refused (readAt s) s (trace-reading s) at q e)) ∙ z in never (cc)
 
-  rest-whole : (m at : ℕ) → length s ≤ at + m → Whole at
-  rest-whole zero at h = over at (omega arith)
-  rest-whole (suc m) at h = by-said at (λ next b. rest-whole m next (omega arith)) (readAt s at) refl
-
--- all of a trace
-pub trace-whole : (s : List ℕ) → ((k : ℕ) → getD s k 0 < 256) → readAll s .stop ≡ ended → traceOf (readAll s .contents) ≡ s
-trace-whole s o z = rest-whole s o (length s) 0 (omega arith) z
+  -- all of a trace
+  pub trace-whole : readAll s .stop ≡ ended → traceOf (readAll s .contents) ≡ s
+  trace-whole = everywhere (readAt s) s (trace-reading s) Whole found-whole ended-whole refused-whole 0
