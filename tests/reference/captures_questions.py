@@ -315,10 +315,10 @@ def trace_lengths(script, _chance):
 
 
 def trace_faults_in_two_records(script, chance):
-    """The first record that is refused decides; a whole one of 1,601 octets once with each other."""
+    """The first record that is refused decides, each fault once alone; a whole record of 1,601 octets before others."""
     faults = (trace_record(3, kind=2), trace_record(0, kind=0), trace_record(3, 2), b"\x01\x00\x01", b"\xFF",
               trace_record(1601, 2), trace_record(9, 0, 257))
-    for before, first, second in product((0, 1, 2), faults[:2], faults):
+    for before, first, second in product((0, 1, 2), (*faults[:2], b""), faults):
         good = trace_of(some_contents(chance, before))
         script.refused(script.write, good + first + good + second)
     for second in faults[:4]:
@@ -380,7 +380,7 @@ def damaged(octets, chance):
 
 def damaged_ones(script, chance):
     """Captures and traces before and after damage, with much room and with little."""
-    for _ in range(120):
+    for _ in range(110):
         capture = random_capture(chance)
         script.read(capture, chance.below(100))
         script.read(damaged(capture, chance), chance.below(100) if chance.below(3) == 0 else None)
