@@ -43,8 +43,8 @@ test: ## the gate: proves and tests everything, from nothing
 prove: ## the edit loop: proves what changed, and runs the programs
 	@cd $(project) && scripts/need-kit && rt check
 
-vectors: ## makes the stored vectors, traces and schedules anew
-	@cd $(project) && for maker in tests/reference/vectors_*.py tests/reference/traces.py tests/reference/schedules.py; do python3 "$$maker" || exit 1; done
+vectors: ## makes the stored vectors, traces, schedules and captures anew
+	@cd $(project) && for maker in tests/reference/vectors_*.py tests/reference/traces.py tests/reference/schedules.py tests/reference/captures_files.py; do python3 "$$maker" || exit 1; done
 
 drawings: ## draws the pictures of the documents anew
 	@cd $(project) && scripts/draw-press && scripts/draw-crates

@@ -262,7 +262,7 @@ def faults_in_two_records(script, chance):
             script.read(file_header(order) + good + first + good + second)
     for order in ORDERS:
         too_long = file_header(order) + record(order, 2) + record(order, 1601)
-        for second in (record(order, 4, original=5), record(order, 4, 3), b"\x00"):
+        for second in (record(order, 4, original=5), record(order, 4, 3), record(order, 1601, 2), b"\x00"):
             script.read(too_long + second)
 
 
@@ -321,7 +321,7 @@ def trace_faults_in_two_records(script, chance):
     for before, first, second in product((0, 1, 2), (*faults[:2], b""), faults):
         good = trace_of(some_contents(chance, before))
         script.refused(script.write, good + first + good + second)
-    for second in faults[:4]:
+    for second in (*faults[:4], faults[5]):
         script.write(trace_record(1) + trace_record(1601) + second)
 
 
@@ -380,7 +380,7 @@ def damaged(octets, chance):
 
 def damaged_ones(script, chance):
     """Captures and traces before and after damage, with much room and with little."""
-    for _ in range(110):
+    for _ in range(90):
         capture = random_capture(chance)
         script.read(capture, chance.below(100))
         script.read(damaged(capture, chance), chance.below(100) if chance.below(3) == 0 else None)
