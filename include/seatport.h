@@ -1,10 +1,11 @@
 /* seatport.h: IEEE 802.3br frame preemption in software, for a port that has none in its hardware.
  *
  * Each function is one call of document 01, "The seat port and its rules", or of document 02: on the hall's schedule of
- * its (i), receiving as octets come of its (iv). Where a frame is cut is told by document 02, (ii), how long link
- * verification waits by its (v), what may stand before a delimiter by its (vi). A function works on memory that the caller
- * lends for the length of the call and keeps nothing: no allocation, no statics, no working memory but some stack. Several
- * ports, or calls from several threads, need nothing but records, streams and lent memory of their own.
+ * its (i), receiving as octets come of its (iv), captures for the usual viewer of its (vii). Where a frame is cut is told by
+ * document 02, (ii), how long link verification waits by its (v), what may stand before a delimiter by its (vi). A function
+ * works on memory that the caller lends for the length of the call and keeps nothing: no allocation, no statics, no working
+ * memory but some stack. Several ports, or calls from several threads, need nothing but records, streams and lent memory of
+ * their own.
  *
  * +----------------------------------------------------------------------------------------------------------------------+
  * | Fragments, V and R are understood only by ports built from this code. Their check octets, the mCRC, are those of     |
@@ -36,8 +37,8 @@
  * verified and no V is answered. So neither memset nor a static without an initializer makes a link.
  *
  * A stream (receiving as octets come) has such fields too, and is empty where it is all zero. The calls on the hall's
- * schedule have no record; what they hand back beside a refusal's number is said there, and the fields of their events are
- * uint64_t.
+ * schedule and on captures have no record; what they hand back beside a refusal's number is said there. The fields of the
+ * schedule's events, and what is handed back of a capture, are uint64_t.
  */
 #ifndef SEATPORT_H
 #define SEATPORT_H
@@ -62,9 +63,10 @@
  *        nothing as octets come. 16 is given no more (below). 14 is now said of too many 55s, in 3 it was said of too few. 12 and 13
  *        count from the header's end and come behind 14, 15 and 17, so that noise, however short or long, is mostly 15. An
  *        express body starts where seatport_express_body says, no longer always at place 8. Sending is as in 3, and what 3
- *        did not refuse is answered as in 3: where no 55 is lost, ports of both versions understand each other. */
+ *        did not refuse is answered as in 3: where no 55 is lost, ports of both versions understand each other.
+ *   4.1  captures for the usual viewer */
 #define SEATPORT_VERSION_MAJOR 4
-#define SEATPORT_VERSION_MINOR 0
+#define SEATPORT_VERSION_MINOR 1
 
 /* Fresh records and an empty stream, in C and in C++. The link's last word is its wait. */
 #define SEATPORT_SENDER_FRESH { 0, 0, 0, 0, 0, 0, 0 }
@@ -441,6 +443,82 @@ struct seatport_gate_event {
  * to go by. */
 uint32_t seatport_gates_events(const uint8_t *list, uint64_t length, struct seatport_gate_event *events, uint64_t room,
 			       uint32_t *count, uint64_t *cycle);
+
+/* ---- Captures ------------------------------------------------------------------------------------------------------- */
+
+/* A capture is a house trace as a pcap file, version 2.4, which the usual viewer (Wireshark) opens. Its header has 24 octets:
+ *
+ *     octets 0 to 3     the magic number A1B2C3D4
+ *     octets 4 to 7     the version, 2 and 4, in two octets each
+ *     octets 8 to 15    time zone and accuracy of the times
+ *     octets 16 to 19   the snap length: the most that is stored of a record
+ *     octets 20 to 23   the link type: 274, Ethernet mPackets, from the preamble on
+ *
+ * Behind it stand the records, one for each record of the trace, with a header of 16 octets:
+ *
+ *     octets 0 to 7     the time, seconds and microseconds
+ *     octets 8 to 11    the stored length
+ *     octets 12 to 15   the original length: not the same where the record was not stored whole
+ *
+ * and behind it the content, as many octets as are stored. A capture without records is good, too, as a trace of no octets
+ * is, and so is a record without content.
+ *
+ * It is written little-endian, with a snap length of 1,600 and 0 for zone, accuracy and all times, which no trace has. It is
+ * read in both byte orders, told by the magic number; zone, accuracy, snap length and times are not looked at. So a trace that
+ * is written and read back has the same octets, and a capture that is read and written back need not have them.
+ *
+ * What the viewer says of fragments is told in the box at the top of this header: their mCRC is document 01's, and the viewer
+ * looks for another. A capture changes no octet of an mFrame. */
+enum seatport_capture_layout {
+	SEATPORT_CAPTURE_SIZE_HEADER = 24,
+	SEATPORT_CAPTURE_SIZE_RECORD_HEADER = 16, /* of a trace it is 4: with each record, a capture grows by 12 octets */
+	SEATPORT_CAPTURE_SNAP_LENGTH = 1600,      /* and the most octets that a content has */
+	SEATPORT_CAPTURE_LINK_TYPE = 274
+};
+
+/* What a call on a capture returns, and behind it what *value then is. A trace to be written has its records looked at one
+ * after the other, each for 50 to 53 in this order; a capture to be read its header for 70 to 73, then each record for 74 to
+ * 77, in this order, too. The first record that fails is told by its place, from 1 on. Only where all are good is the output's
+ * room looked at. A call that does not return 0 writes nothing to its output; one that does leaves what lies behind its own as
+ * it was. Take *value for a length only where 0 or 78 was returned. */
+enum seatport_capture {
+	/* how many octets were written */
+	SEATPORT_CAPTURE_GOOD = 0,
+
+	/* which record: fewer than the four octets of its header are left */
+	SEATPORT_CAPTURE_TRACE_HEADER_CUT = SEATPORT_TRACED_HEADER_CUT,
+	/* which record: its length is over 1,600 */
+	SEATPORT_CAPTURE_TRACE_CONTENT_LONG = SEATPORT_TRACED_CONTENT_LONG,
+	/* which record: its kind is not 1 */
+	SEATPORT_CAPTURE_TRACE_KIND_UNKNOWN = SEATPORT_TRACED_KIND_UNKNOWN,
+	/* which record: fewer octets are left than its length says */
+	SEATPORT_CAPTURE_TRACE_CONTENT_CUT = SEATPORT_TRACED_CONTENT_CUT,
+
+	SEATPORT_CAPTURE_HEADER_CUT = 70,        /* 0: under 24 octets, whatever they are */
+	SEATPORT_CAPTURE_MAGIC_UNKNOWN = 71,     /* 0: A1B2C3D4 in neither byte order; so are a pcap file with times in
+						  * nanoseconds and a pcapng file */
+	SEATPORT_CAPTURE_VERSION_UNKNOWN = 72,   /* 0: the version is not 2.4 */
+	SEATPORT_CAPTURE_LINK_TYPE_OTHER = 73,   /* 0: the link type, all 32 bits of it, is not 274 */
+	SEATPORT_CAPTURE_RECORD_HEADER_CUT = 74, /* which record: fewer than the 16 octets of its header are left */
+	SEATPORT_CAPTURE_CONTENT_LONG = 75,      /* which record: its stored length is over 1,600, whatever the snap length */
+	SEATPORT_CAPTURE_LENGTHS_DIFFER = 76,    /* which record: stored and original length differ */
+	SEATPORT_CAPTURE_CONTENT_CUT = 77,       /* which record: fewer octets are left than its stored length says */
+
+	/* how many octets there must be room for */
+	SEATPORT_CAPTURE_OUTPUT_SHORT = 78
+};
+
+/* The capture of a trace, written to the front of `capture`: 24 octets more than the trace, and 12 more for each record. *value
+ * is what enum seatport_capture says. Returns 0, 50 to 53 or 78. With a room of 0 it tells of a good trace how many octets
+ * there must be room for: by 78, always, since there are never fewer than 24. For a trace of some 2^62 octets or more they may
+ * be more than 64 bits can say; *value is then UINT64_MAX, and no room is enough. */
+uint32_t seatport_capture_write(const uint8_t *trace, uint64_t length, uint8_t *capture, uint64_t room, uint64_t *value);
+
+/* The trace of a capture, written to the front of `trace`: 24 octets fewer than the capture, and 12 fewer for each record, so
+ * that a room of `length` octets is always enough. *value is what enum seatport_capture says. Returns 0 or 70 to 78. With a
+ * room of 0 it tells of a good capture how many octets there must be room for: by 78, or, without records, where none are
+ * needed, by 0. */
+uint32_t seatport_capture_read(const uint8_t *capture, uint64_t length, uint8_t *trace, uint64_t room, uint64_t *value);
 
 /* The structs are words and nothing else; those of an event have 64 bits. */
 typedef char seatport_written_is_2_words[sizeof(struct seatport_written) == 2 * 4 ? 1 : -1];

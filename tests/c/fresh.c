@@ -1,11 +1,11 @@
 /* The header alone, as C99 and as C++98: it compiles without a warning, its functions link under their names, its version is
- * a number for the preprocessor, and records and entries written as it says are taken by each call. What was written for an
- * older version is refused as it says: a link that is all zero at every event, which leave it so, and an area of 1,530
+ * a number for the preprocessor, and records, entries and a trace written as it says are taken by each call. What was written
+ * for an older version is refused as it says: a link that is all zero at every event, which leave it so, and an area of 1,530
  * octets. */
 #include "seatport.h"
 
-#if 100 * SEATPORT_VERSION_MAJOR + SEATPORT_VERSION_MINOR < 400
-#error "shortened preambles came with version 4.0"
+#if 100 * SEATPORT_VERSION_MAJOR + SEATPORT_VERSION_MINOR < 401
+#error "captures came with version 4.1"
 #endif
 
 static int zero_link_refused(void)
@@ -52,6 +52,25 @@ static int shortened_taken(const uint8_t *mframe, uint32_t length)
 	return 1;
 }
 
+/* A trace of one record without content: how much room its capture needs is asked with none, and it is read back. */
+static int capture_taken(void)
+{
+	static const uint8_t trace[4] = { 0, 0, 1, 0 };
+	static uint8_t capture[SEATPORT_CAPTURE_SIZE_HEADER + SEATPORT_CAPTURE_SIZE_RECORD_HEADER], back[sizeof trace];
+	uint64_t value = 7;
+	if (seatport_capture_write(trace, sizeof trace, capture, 0, &value) != SEATPORT_CAPTURE_OUTPUT_SHORT || value != sizeof capture)
+		return 0;
+	if (seatport_capture_write(trace, sizeof trace, capture, sizeof capture, &value) != SEATPORT_CAPTURE_GOOD)
+		return 0;
+	if (capture[16] + 256 * capture[17] != SEATPORT_CAPTURE_SNAP_LENGTH)
+		return 0;
+	if (capture[20] + 256 * capture[21] != SEATPORT_CAPTURE_LINK_TYPE)
+		return 0;
+	if (seatport_capture_read(capture, sizeof capture, back, sizeof back, &value) != SEATPORT_CAPTURE_GOOD || value != sizeof back)
+		return 0;
+	return back[2] == trace[2];
+}
+
 int main(void)
 {
 	struct seatport_sender sender = SEATPORT_SENDER_FRESH;
@@ -91,5 +110,7 @@ int main(void)
 		return 10;
 	if (!shortened_taken(output, written.length))
 		return 11;
+	if (!capture_taken())
+		return 12;
 	return 0;
 }

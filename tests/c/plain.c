@@ -1,4 +1,4 @@
-/* Document 01, and document 02, (i) to (vi), in plain C; plain.h says what for. */
+/* Document 01, and document 02, (i) to (vii), in plain C; plain.h says what for. */
 #include "plain.h"
 
 #include <string.h>
@@ -84,6 +84,11 @@ static void put_word(uint8_t *out, uint32_t word)
 static uint32_t get_word(const uint8_t *octets)
 {
 	return (uint32_t)octets[0] | (uint32_t)octets[1] << 8 | (uint32_t)octets[2] << 16 | (uint32_t)octets[3] << 24;
+}
+
+static uint32_t get_word_high_first(const uint8_t *octets)
+{
+	return (uint32_t)octets[0] << 24 | (uint32_t)octets[1] << 16 | (uint32_t)octets[2] << 8 | octets[3];
 }
 
 /* Sending */
@@ -551,24 +556,26 @@ int plain_event(struct plain_link *l, uint32_t event, uint32_t wait, bool *order
 
 /* Trace */
 
+enum { TRACE_HEADER = 4, CONTENT_MAX = 1600, MFRAME_KIND = 1 };
+
 int plain_trace(const uint8_t *trace, size_t n, size_t at, struct plain_content *content)
 {
 	size_t left = at < n ? n - at : 0;
 	if (left == 0)
 		return PLAIN_TRACE_END;
-	if (left < 4)
+	if (left < TRACE_HEADER)
 		return 50;
 	const uint8_t *head = trace + at;
 	size_t length = (size_t)(head[0] | head[1] << 8);
-	if (length > 1600)
+	if (length > CONTENT_MAX)
 		return 51;
-	if ((head[2] | head[3] << 8) != 1)
+	if ((head[2] | head[3] << 8) != MFRAME_KIND)
 		return 52;
-	if (left - 4 < length)
+	if (left - TRACE_HEADER < length)
 		return 53;
-	content->start = at + 4;
+	content->start = at + TRACE_HEADER;
 	content->length = length;
-	content->next = at + 4 + length;
+	content->next = at + TRACE_HEADER + length;
 	return 0;
 }
 
@@ -584,7 +591,7 @@ struct schedule {
 
 static uint32_t interval_of(const uint8_t *entry)
 {
-	return (uint32_t)entry[3] << 24 | (uint32_t)entry[4] << 16 | (uint32_t)entry[5] << 8 | entry[6];
+	return get_word_high_first(entry + 3);
 }
 
 /* The entry at the front of n octets, n at least 1. */
@@ -684,6 +691,130 @@ int plain_gates_write(const struct plain_entry *entries, size_t n, uint8_t *list
 		*list++ = (uint8_t)(entries->interval >> 16);
 		*list++ = (uint8_t)(entries->interval >> 8);
 		*list++ = (uint8_t)entries->interval;
+	}
+	return 0;
+}
+
+/* Captures. Every record is judged before any is copied; the copying then tests nothing more and ends where the output is
+ * full. */
+
+enum { FILE_HEADER = 24, VERSION_AT = 4, LINK_TYPE_AT = 20, RECORD_HEADER = 16, STORED_AT = 8, ORIGINAL_AT = 12, FIELD = 4 };
+
+/* How much longer a record's header is in a capture than in a trace. */
+enum { LONGER = RECORD_HEADER - TRACE_HEADER };
+
+/* The file header, first as it is written, low octets first, then with the high ones first. */
+static const uint8_t file_headers[2][FILE_HEADER] = {
+	{ 0xd4, 0xc3, 0xb2, 0xa1, 2, 0, 4, 0, 0, 0, 0, 0, 0, 0, 0, 0, 0x40, 0x06, 0, 0, 0x12, 0x01, 0, 0 },
+	{ 0xa1, 0xb2, 0xc3, 0xd4, 0, 2, 0, 4, 0, 0, 0, 0, 0, 0, 0, 0, 0, 0, 0x06, 0x40, 0, 0, 0x01, 0x12 }
+};
+
+/* How many records a trace has; a refused one is the last that was counted. */
+static int count_traced(const uint8_t *trace, size_t n, uint64_t *records)
+{
+	struct plain_content content;
+	int answer;
+	*records = 0;
+	for (size_t at = 0; (answer = plain_trace(trace, n, at, &content)) == 0; at = content.next)
+		++*records;
+	if (answer == PLAIN_TRACE_END)
+		return 0;
+	++*records;
+	return answer;
+}
+
+int plain_capture_write(const uint8_t *trace, size_t n, uint8_t *capture, size_t room, uint64_t *value)
+{
+	uint64_t records;
+	int fault = count_traced(trace, n, &records);
+	*value = records;
+	if (fault != 0)
+		return fault;
+	*value = LONGER * records + FILE_HEADER + n;
+	if (*value > room)
+		return 78;
+	const uint8_t *full = capture + *value;
+	memcpy(capture, file_headers[0], FILE_HEADER);
+	for (capture += FILE_HEADER; capture != full;) {
+		size_t length = (size_t)(trace[0] | trace[1] << 8);
+		memset(capture, 0, STORED_AT);
+		put_word(capture + STORED_AT, (uint32_t)length);
+		put_word(capture + ORIGINAL_AT, (uint32_t)length);
+		memcpy(capture + RECORD_HEADER, trace + TRACE_HEADER, length);
+		capture += RECORD_HEADER + length;
+		trace += TRACE_HEADER + length;
+	}
+	return 0;
+}
+
+/* The first octet tells which of the two orders it can be. */
+static int file_fault(const uint8_t *capture, size_t n, bool *high_first)
+{
+	if (n < FILE_HEADER)
+		return 70;
+	*high_first = capture[0] == file_headers[1][0];
+	const uint8_t *header = file_headers[*high_first];
+	if (memcmp(capture, header, FIELD) != 0)
+		return 71;
+	if (memcmp(capture + VERSION_AT, header + VERSION_AT, FIELD) != 0)
+		return 72;
+	return memcmp(capture + LINK_TYPE_AT, header + LINK_TYPE_AT, FIELD) == 0 ? 0 : 73;
+}
+
+static uint32_t stored_length(const uint8_t *record, bool high_first)
+{
+	return high_first ? get_word_high_first(record + STORED_AT) : get_word(record + STORED_AT);
+}
+
+/* The record at the front of n octets, n at least 1. Two lengths are the same where their octets are. */
+static int stored_fault(const uint8_t *record, size_t n, bool high_first)
+{
+	if (n < RECORD_HEADER)
+		return 74;
+	uint32_t length = stored_length(record, high_first);
+	if (length > CONTENT_MAX)
+		return 75;
+	if (memcmp(record + STORED_AT, record + ORIGINAL_AT, FIELD) != 0)
+		return 76;
+	return n - RECORD_HEADER < length ? 77 : 0;
+}
+
+/* How many records so many octets behind a file header have; a refused one is the last that was counted. */
+static int count_stored(const uint8_t *record, size_t n, bool high_first, uint64_t *records)
+{
+	*records = 0;
+	while (n != 0) {
+		int fault = stored_fault(record, n, high_first);
+		++*records;
+		if (fault != 0)
+			return fault;
+		size_t whole = RECORD_HEADER + stored_length(record, high_first);
+		record += whole;
+		n -= whole;
+	}
+	return 0;
+}
+
+int plain_capture_read(const uint8_t *capture, size_t n, uint8_t *trace, size_t room, uint64_t *value)
+{
+	bool high_first = false;
+	uint64_t records = 0;
+	int fault = file_fault(capture, n, &high_first);
+	if (fault == 0)
+		fault = count_stored(capture + FILE_HEADER, n - FILE_HEADER, high_first, &records);
+	*value = records;
+	if (fault != 0)
+		return fault;
+	*value = n - FILE_HEADER - LONGER * records;
+	if (*value > room)
+		return 78;
+	capture += FILE_HEADER;
+	for (const uint8_t *full = trace + *value; trace != full;) {
+		uint32_t length = stored_length(capture, high_first);
+		put_word(trace, MFRAME_KIND << 16 | length);
+		memcpy(trace + TRACE_HEADER, capture + RECORD_HEADER, length);
+		trace += TRACE_HEADER + length;
+		capture += RECORD_HEADER + length;
 	}
 	return 0;
 }

@@ -1,6 +1,6 @@
-/* The calls of document 01, as document 02 changes them in (ii), (iii), (v) and (vi), and those of its (i) and (iv), a second
- * time, in plain C. It shares no code with the port: tests/c/compare.c holds the port against it octet for octet, and the benchmarks
- * measure the port beside it. It is written as one would write it for a small board: a table for the check octets, memcpy,
+/* The calls of document 01, as document 02 changes them in (ii), (iii), (v) and (vi), and those of its (i), (iv) and (vii), a
+ * second time, in plain C. It shares no code with the port: tests/c/compare.c holds the port against it octet for octet, and
+ * the benchmarks measure the port beside it. It is written as one would write it for a small board: a table for the check octets, memcpy,
  * records that the caller keeps, no allocation. */
 #ifndef PLAIN_H
 #define PLAIN_H
@@ -98,5 +98,10 @@ int plain_gates_read(const uint8_t *list, size_t n, struct plain_entry *entries,
 int plain_gates_write(const struct plain_entry *entries, size_t n, uint8_t *list, size_t room, uint32_t *count);
 int plain_gates_events(const uint8_t *list, size_t n, struct plain_gate_event *events, size_t room, uint32_t *count,
 		       uint64_t *cycle);
+
+/* Captures: 0, or the number of the refusal. The value is how many octets were written; after 50 to 53 and 74 to 77 the record's
+ * place from 1 on, after 70 to 73 it is 0, after 78 the room that is needed. */
+int plain_capture_write(const uint8_t *trace, size_t n, uint8_t *capture, size_t room, uint64_t *value);
+int plain_capture_read(const uint8_t *capture, size_t n, uint8_t *trace, size_t room, uint64_t *value);
 
 #endif

@@ -120,3 +120,13 @@ uint32_t seatport_gates_events(const uint8_t *list, uint64_t length, struct seat
 {
 	return (uint32_t)plain_gates_events(list, (size_t)length, (struct plain_gate_event *)events, (size_t)room, count, cycle);
 }
+
+uint32_t seatport_capture_write(const uint8_t *trace, uint64_t length, uint8_t *capture, uint64_t room, uint64_t *value)
+{
+	return (uint32_t)plain_capture_write(trace, (size_t)length, capture, (size_t)room, value);
+}
+
+uint32_t seatport_capture_read(const uint8_t *capture, uint64_t length, uint8_t *trace, uint64_t room, uint64_t *value)
+{
+	return (uint32_t)plain_capture_read(capture, (size_t)length, trace, (size_t)room, value);
+}
