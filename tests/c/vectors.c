@@ -1,6 +1,6 @@
 /* Runs stored questions through the calls of seatport.h, be they the port's or plain C's (plain_port.c):
- * vectors send|receive|stream|verify|gates < stdin > stdout. tests/reference/README.md has the layout of the questions and
- * of the answers; the expected output was made by the reference. */
+ * vectors send|receive|stream|verify|gates|captures < stdin > stdout. tests/reference/README.md has the layout of the
+ * questions and of the answers; the expected output was made by the reference. */
 #include "seatport.h"
 
 #include <inttypes.h>
@@ -9,17 +9,18 @@
 #include <stdlib.h>
 #include <string.h>
 
-enum { LONGEST = 2048, ROWS = 300 };
+/* A capture or a trace is longer than any other run of octets. */
+enum { LONGEST = 2048, LONGEST_CAPTURE = 8192, ROWS = 300 };
 
 /* What a question gives to its call, or the area in which its octets are received as they come, and what it lends to it. */
 static union {
-	uint8_t octets[LONGEST];
+	uint8_t octets[LONGEST_CAPTURE];
 	uint8_t area[LONGEST];
 	struct seatport_entry entries[ROWS];
 } given;
 
 static union {
-	uint8_t octets[ROWS * sizeof(struct seatport_gate_event)];
+	uint8_t octets[LONGEST_CAPTURE];
 	struct seatport_entry entries[ROWS];
 	struct seatport_gate_event events[ROWS];
 } lent;
@@ -33,8 +34,6 @@ static void fail(const char *why)
 /* Octets of a question. The input may end only where no question is begun. */
 static void take(uint8_t *octets, size_t n)
 {
-	if (n > LONGEST)
-		fail("a run of octets is too long");
 	for (size_t i = 0; i < n; i++) {
 		int c = getchar();
 		if (c == EOF)
@@ -59,9 +58,18 @@ static uint32_t word(unsigned n)
 	return (uint32_t)number(n);
 }
 
-static size_t run(uint8_t *octets)
+/* How many octets a run has. */
+static size_t run_length(size_t most)
 {
 	size_t n = word(2);
+	if (n > most)
+		fail("a run of octets is too long");
+	return n;
+}
+
+static size_t run(uint8_t *octets)
+{
+	size_t n = run_length(LONGEST);
 	take(octets, n);
 	return n;
 }
@@ -114,7 +122,7 @@ static struct seatport_written written;
 
 static void express(void)
 {
-	size_t n = word(2), room = lend(1);
+	size_t n = run_length(LONGEST), room = lend(1);
 	take(given.octets, n);
 	uint32_t refusal = seatport_express(given.octets, n, lent.octets, room, &written);
 	print_written("express", refusal, &written, room);
@@ -278,9 +286,7 @@ static void receive_questions(void)
 static void give_octets(struct seatport_stream *s, size_t size)
 {
 	unsigned waited = 0, area_short = 0, unsound = 0;
-	size_t n = word(2);
-	if (n > LONGEST)
-		fail("a run of octets is too long");
+	size_t n = run_length(LONGEST);
 	for (size_t i = 0; i < n; i++) {
 		switch (seatport_octet(s, given.area, size, (uint8_t)word(1))) {
 		case SEATPORT_GIVEN_WAITS:
@@ -390,7 +396,7 @@ static void print_lent(size_t room, size_t size)
 static void read_list(void)
 {
 	uint32_t count;
-	size_t n = word(2), room = lend(sizeof(struct seatport_entry));
+	size_t n = run_length(LONGEST), room = lend(sizeof(struct seatport_entry));
 	take(given.octets, n);
 	uint32_t answer = seatport_gates_read(given.octets, n, lent.entries, room, &count);
 	printf("read %" PRIu32 " %" PRIu32, answer, count);
@@ -422,7 +428,7 @@ static void list_events(void)
 {
 	uint32_t count;
 	uint64_t cycle;
-	size_t n = word(2), room = lend(sizeof(struct seatport_gate_event));
+	size_t n = run_length(LONGEST), room = lend(sizeof(struct seatport_gate_event));
 	take(given.octets, n);
 	uint32_t answer = seatport_gates_events(given.octets, n, lent.events, room, &count, &cycle);
 	printf("events %" PRIu32 " %" PRIu32 " %" PRIu64, answer, count, cycle);
@@ -448,6 +454,33 @@ static void gates_questions(void)
 	}
 }
 
+/* Both calls are lent a run of octets and memory for another. */
+static void convert(const char *name, uint32_t (*call)(const uint8_t *, uint64_t, uint8_t *, uint64_t, uint64_t *))
+{
+	uint64_t value;
+	size_t n = run_length(LONGEST_CAPTURE), room = lend(1);
+	take(given.octets, n);
+	uint32_t answer = call(given.octets, n, lent.octets, room, &value);
+	printf("%s %" PRIu32 " %" PRIu64, name, answer, value);
+	print_lent(room, 1);
+}
+
+static void captures_questions(void)
+{
+	for (int question; (question = getchar()) != EOF;) {
+		switch (question) {
+		case 1:
+			convert("write", seatport_capture_write);
+			break;
+		case 2:
+			convert("read", seatport_capture_read);
+			break;
+		default:
+			fail("no such question");
+		}
+	}
+}
+
 int main(int argc, char **argv)
 {
 	if (argc == 2 && strcmp(argv[1], "send") == 0)
@@ -460,8 +493,10 @@ int main(int argc, char **argv)
 		verify_questions();
 	else if (argc == 2 && strcmp(argv[1], "gates") == 0)
 		gates_questions();
+	else if (argc == 2 && strcmp(argv[1], "captures") == 0)
+		captures_questions();
 	else
-		fail("one word chooses the questions: send, receive, stream, verify or gates");
+		fail("one word chooses the questions: send, receive, stream, verify, gates or captures");
 	if (ferror(stdin))
 		fail("the questions could not be read");
 	if (fflush(stdout) != 0 || ferror(stdout))
