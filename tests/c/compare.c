@@ -1,7 +1,7 @@
-/* Holds the port, through its C boundary, against plain.c on random and damaged inputs: what is returned, every word of the
- * records and every octet of the lent memory, with octets behind it that nobody lent. The inputs are the same on every
- * machine: no two are drawn in one expression, where the compiler chooses the order. Prints how often each number was
- * returned, and fails if the two ever differ or a number was never reached. */
+/* Holds the port, through its C boundary, against plain.c on random and damaged inputs, and on captures with every octet
+ * changed: what is returned, every word of the records and every octet of the lent memory, with octets behind it that nobody
+ * lent. The inputs are the same on every machine: no two are drawn in one expression, where the compiler chooses the order.
+ * Prints how often each number was returned, and fails if the two ever differ or a number was never reached. */
 #include "plain.h"
 #include "seatport.h"
 
@@ -10,7 +10,8 @@
 #include <string.h>
 
 enum { SENDS = 20000, RECEIVES = 40000, STEPS = 20000, TRACES = 10000, LISTS = 10000, OCTETS = 10000, ENDS = 10000, RUNS = 10000 };
-enum { MEMORY = 2048, BEHIND = 64, NUMBERS = 65 };
+enum { CAPTURES = 10000, ROUND_TRIPS = 2000 };
+enum { MEMORY = 2048, BEHIND = 64, NUMBERS = 79 };
 
 static unsigned counts[NUMBERS];
 static const char *call;
@@ -679,24 +680,37 @@ static void fail_all(void)
 
 /* Trace */
 
+/* A content, often about as long as one may be. */
+static uint32_t some_content(void)
+{
+	return one_in(6) ? near(1600, 3000) : chance(200);
+}
+
+/* Makes a trace, for which there must be 4 * MEMORY octets; how many it has. */
+static size_t some_trace(uint8_t *trace)
+{
+	size_t n = 0;
+	while (n < 2 * MEMORY && !one_in(4)) {
+		uint32_t m = some_content();
+		fill(trace + n, 4 + m);
+		trace[n] = (uint8_t)m;
+		trace[n + 1] = (uint8_t)(m >> 8);
+		trace[n + 2] = one_in(30) ? (uint8_t)chance(256) : 1;
+		trace[n + 3] = one_in(30) ? (uint8_t)chance(256) : 0;
+		n += 4 + m;
+	}
+	if (n > 0 && one_in(2))
+		n -= chance(n < 6 ? (uint32_t)n : 6);
+	return n;
+}
+
 static void trace_all(void)
 {
 	static const unsigned numbers[] = { 0, 1, 50, 51, 52, 53 };
 	static uint8_t trace[4 * MEMORY];
 	call = "trace";
 	for (turn = 0; turn < TRACES; turn++) {
-		size_t n = 0, at = 0;
-		while (n < 2 * MEMORY && !one_in(4)) {
-			uint32_t m = one_in(6) ? near(1600, 3000) : chance(200);
-			fill(trace + n, 4 + m);
-			trace[n] = (uint8_t)m;
-			trace[n + 1] = (uint8_t)(m >> 8);
-			trace[n + 2] = one_in(30) ? (uint8_t)chance(256) : 1;
-			trace[n + 3] = one_in(30) ? (uint8_t)chance(256) : 0;
-			n += 4 + m;
-		}
-		if (n > 0 && one_in(2))
-			n -= chance(n < 6 ? (uint32_t)n : 6);
+		size_t n = some_trace(trace), at = 0;
 		for (;;) {
 			struct seatport_content port = { 7, 7, 7 };
 			struct plain_content plain = { at, 0, at };
@@ -797,7 +811,7 @@ static void all_written(const char *what, uint32_t most)
 {
 	printf("%-12s %u %s, at most %u\n", "", written_in_all, what, written_most);
 	if (written_most != most)
-		fail("the longest list was never good");
+		fail("the longest was never good");
 	written_in_all = written_most = 0;
 }
 
@@ -1041,6 +1055,473 @@ static void run_all(void)
 	printf("%-12s %u octets\n", "", (unsigned)octets);
 }
 
+/* Captures. What is written and what is read are each tried with every octet of a small one changed and with every cut of it,
+ * with fields about their limits, by chance, and with more octets and more records than 16 bits can count; then both on one
+ * trace. */
+
+enum { FILE_HEADER = SEATPORT_CAPTURE_SIZE_HEADER, RECORD_HEADER = SEATPORT_CAPTURE_SIZE_RECORD_HEADER, TRACE_HEADER = 4 };
+enum { CONTENT_MAX = SEATPORT_CAPTURE_SNAP_LENGTH, CONTENTS = 45, LONG_TRACE = CONTENTS * (TRACE_HEADER + CONTENT_MAX) };
+enum { LONG_CAPTURE = FILE_HEADER + CONTENTS * (RECORD_HEADER + CONTENT_MAX), MANY_RECORDS = 65600 };
+static const uint32_t magic = 0xa1b2c3d4;
+
+/* The trace or the capture that is given to both, and the order in which its numbers are put down. */
+static struct {
+	uint8_t octets[FILE_HEADER + RECORD_HEADER * (MANY_RECORDS + 1)];
+	size_t length;
+	bool high_first;
+} given;
+
+/* Rooms go to one octet more than the longest needs. */
+static uint8_t port_file[LONG_CAPTURE + 1 + BEHIND], plain_file[LONG_CAPTURE + 1 + BEHIND];
+
+/* A number of so many octets, put behind what there is. */
+static void append(unsigned n, uint32_t value)
+{
+	for (unsigned i = 0; i < n; i++)
+		given.octets[given.length++] = (uint8_t)(value >> 8 * (given.high_first ? n - 1 - i : i));
+}
+
+static void append_octets(size_t n)
+{
+	fill(given.octets + given.length, n);
+	given.length += n;
+}
+
+/* A record of a trace, or of a capture, with so many octets behind its header. */
+static void append_traced(uint32_t length_said, uint32_t kind, size_t there)
+{
+	append(2, length_said);
+	append(2, kind);
+	append_octets(there);
+}
+
+static void append_stored(uint32_t stored, uint32_t original, size_t there)
+{
+	append_octets(8);
+	append(4, stored);
+	append(4, original);
+	append_octets(there);
+}
+
+static void begin_trace(void)
+{
+	given.length = 0;
+	given.high_first = false;
+}
+
+/* Zone, accuracy and snap length are any numbers. */
+static void begin_capture_of(bool high_first, uint32_t begins, uint32_t major, uint32_t minor, uint32_t link_type)
+{
+	given.length = 0;
+	given.high_first = high_first;
+	append(4, begins);
+	append(2, major);
+	append(2, minor);
+	append_octets(8);
+	append(4, odd_word());
+	append(4, link_type);
+}
+
+static void begin_capture(bool high_first)
+{
+	begin_capture_of(high_first, magic, 2, 4, SEATPORT_CAPTURE_LINK_TYPE);
+}
+
+/* One of the two calls, the port's and plain C's. */
+struct conversion {
+	const char *name;
+	uint32_t (*port)(const uint8_t *, uint64_t, uint8_t *, uint64_t, uint64_t *);
+	int (*plain)(const uint8_t *, size_t, uint8_t *, size_t, uint64_t *);
+};
+
+static const struct conversion writing = { "capture_write", seatport_capture_write, plain_capture_write };
+static const struct conversion reading = { "capture_read", seatport_capture_read, plain_capture_read };
+
+/* Which record was refused: the first, the second, the third, or a later one; and how many captures were read in each order. */
+static unsigned refused_at[4], read_in[2];
+
+static void note_conversion(const struct conversion *c, uint32_t number, uint64_t value)
+{
+	bool record = number != SEATPORT_CAPTURE_GOOD && number < SEATPORT_CAPTURE_OUTPUT_SHORT && value != 0;
+	if (record)
+		refused_at[value < 4 ? value - 1 : 3]++;
+	if (c == &reading && number == SEATPORT_CAPTURE_GOOD)
+		read_in[given.octets[0] == magic >> 24]++;
+}
+
+/* What is given, converted by both. Of the lent memory, only what is told as written may have changed. */
+static uint32_t convert(const struct conversion *c, size_t room, uint64_t *value)
+{
+	uint64_t plain_value = 7;
+	size_t lent = room + BEHIND;
+	*value = 7;
+	call = c->name;
+	turn++;
+	for (size_t i = 0; i < lent; i++)
+		port_file[i] = (uint8_t)(turn + i);
+	memcpy(plain_file, port_file, lent);
+	uint32_t number = c->port(given.octets, given.length, port_file, room, value);
+	answered(number, c->plain(given.octets, given.length, plain_file, room, &plain_value));
+	if (*value != plain_value)
+		fail("another value");
+	same(port_file, plain_file, lent, "other octets in lent memory, or behind it");
+	if (number == SEATPORT_CAPTURE_OUTPUT_SHORT ? *value <= room : number == SEATPORT_CAPTURE_GOOD && *value > room)
+		fail("the room is told as too short, or as enough, and is not");
+	for (size_t i = number == SEATPORT_CAPTURE_GOOD ? (size_t)*value : 0; i < lent; i++)
+		if (port_file[i] != (uint8_t)(turn + i))
+			fail("an octet is written that is not told as written");
+	written_by(number, (uint32_t)*value, (uint32_t)plain_value);
+	note_conversion(c, number, *value);
+	return number;
+}
+
+/* With no room, which tells how much is needed, then with an octet too few, with just enough and with one more. What is refused
+ * otherwise is refused with as much room as any answer may need, too: a record of four octets in a trace has 16 in a capture. */
+static void convert_about(const struct conversion *c)
+{
+	uint64_t needed, value;
+	uint32_t number = convert(c, 0, &needed);
+	if (number != SEATPORT_CAPTURE_OUTPUT_SHORT) {
+		size_t much = FILE_HEADER + 4 * given.length;
+		if (convert(c, much < LONG_CAPTURE ? much : LONG_CAPTURE, &value) != number || value != needed)
+			fail("with much room something else is said");
+		return;
+	}
+	for (size_t room = (size_t)needed - 1; room <= needed + 1; room++) {
+		number = convert(c, room, &value);
+		if (number != (room < needed ? SEATPORT_CAPTURE_OUTPUT_SHORT : SEATPORT_CAPTURE_GOOD) || value != needed)
+			fail("not as much room is needed as was told");
+	}
+}
+
+/* Every octet of what is given, changed to every other. */
+static void change_each(const struct conversion *c)
+{
+	for (size_t at = 0; at < given.length; at++) {
+		uint8_t kept = given.octets[at];
+		for (unsigned change = 1; change < 256; change++) {
+			given.octets[at] = (uint8_t)(kept ^ change);
+			convert_about(c);
+		}
+		given.octets[at] = kept;
+	}
+}
+
+/* Every front of what is given, with every room up to one more than all of it needs. */
+static void cut_each(const struct conversion *c)
+{
+	size_t whole = given.length;
+	uint64_t needed, value;
+	convert(c, 0, &needed);
+	for (given.length = 0; given.length <= whole; given.length++)
+		for (size_t room = 0; room <= needed + 1; room++)
+			convert(c, room, &value);
+	given.length = whole;
+}
+
+/* How many octets may stand behind a header that says so many: none, one, one too few, all, or one too many. */
+static size_t some_there(uint32_t said, uint32_t which)
+{
+	size_t all = said > CONTENT_MAX ? CONTENT_MAX + 1 : said;
+	switch (which) {
+	case 0:
+	case 1:
+		return which;
+	case 2:
+		return all == 0 ? 0 : all - 1;
+	default:
+		return all + (which == 4);
+	}
+}
+
+/* One of so many; what is left of the number chooses the next. */
+static uint32_t choose(uint32_t *which, uint32_t n)
+{
+	uint32_t chosen = *which % n;
+	*which /= n;
+	return chosen;
+}
+
+enum { THERE = 5, LENGTHS = 10, KINDS = 7 };
+
+/* Behind a good record one with each length, each kind and more or less of its content. */
+static void traced_fields(void)
+{
+	static const uint32_t lengths[LENGTHS] = { 0, 1, 255, 256, 1599, 1600, 1601, 0x4006, 0x8000, 0xffff };
+	static const uint32_t kinds[KINDS] = { 1, 0, 2, 0x100, 0x101, 0x8001, 0xffff };
+	for (uint32_t i = 0; i < LENGTHS * KINDS * THERE; i++) {
+		uint32_t which = i, said = lengths[choose(&which, LENGTHS)], kind = kinds[choose(&which, KINDS)];
+		begin_trace();
+		append_traced(3, 1, 3);
+		append_traced(said, kind, some_there(said, which));
+		convert_about(&writing);
+	}
+}
+
+/* Contents of the greatest length, so many that neither the trace nor the capture has a length of 16 bits. */
+static void long_trace(void)
+{
+	begin_trace();
+	for (unsigned i = 0; i < CONTENTS; i++)
+		append_traced(CONTENT_MAX, 1, CONTENT_MAX);
+}
+
+/* So many records without content that their number needs more than 16 bits: they are counted, and one more, which is cut, is
+ * told by its place. */
+static void many_traced(void)
+{
+	uint64_t value;
+	begin_trace();
+	for (unsigned i = 0; i < MANY_RECORDS; i++)
+		append_traced(0, 1, 0);
+	if (convert(&writing, 0, &value) != SEATPORT_CAPTURE_OUTPUT_SHORT || value != FILE_HEADER + RECORD_HEADER * MANY_RECORDS)
+		fail("many records are not counted");
+	append_traced(7, 1, 0);
+	if (convert(&writing, 0, &value) != SEATPORT_CAPTURE_TRACE_CONTENT_CUT || value != MANY_RECORDS + 1)
+		fail("the record behind many is not refused");
+}
+
+/* A trace without records, and a small one with three. */
+static void small_traces(void)
+{
+	begin_trace();
+	cut_each(&writing);
+	append_traced(3, 1, 3);
+	append_traced(0, 1, 0);
+	append_traced(5, 1, 5);
+	cut_each(&writing);
+	change_each(&writing);
+}
+
+static void print_refused(void)
+{
+	each("refused at record 1, 2, 3, a later one", refused_at, 4);
+	memset(refused_at, 0, sizeof refused_at);
+}
+
+static void capture_write_all(void)
+{
+	static const unsigned numbers[] = { 0, 50, 51, 52, 53, 78 };
+	turn = 0;
+	small_traces();
+	traced_fields();
+	long_trace();
+	convert_about(&writing);
+	many_traced();
+	for (unsigned i = 0; i < CAPTURES; i++) {
+		given.length = some_trace(given.octets);
+		convert_about(&writing);
+	}
+	reached("pcap write", numbers, sizeof numbers / sizeof numbers[0]);
+	all_written("octets", LONG_CAPTURE);
+	print_refused();
+}
+
+enum { ORDERS = 2, STORED = 14, MAGICS = 7, VERSIONS = 9, LINK_TYPES = 11, TAILS = 6 };
+
+/* Behind a good record one with each pair of lengths and more or less of its content. */
+static void stored_fields(void)
+{
+	static const uint32_t lengths[STORED] = { 0, 1, 255, 256, 1599, 1600, 1601, 0x10000, 0x10640, 0x40060000,
+						  0x640ffff, 0x80000000, 0x80000640, 0xffffffff };
+	for (uint32_t i = 0; i < STORED * STORED * ORDERS * THERE; i++) {
+		uint32_t which = i, stored = lengths[choose(&which, STORED)], original = lengths[choose(&which, STORED)];
+		begin_capture(choose(&which, ORDERS));
+		append_stored(3, 3, 3);
+		append_stored(stored, original, some_there(stored, which));
+		convert_about(&reading);
+	}
+}
+
+/* What stands behind a file header: nothing, a good record, or one that is refused. */
+static void append_tail(uint32_t which)
+{
+	switch (which) {
+	case 0:
+		break;
+	case 1:
+		append_stored(2, 2, 2);
+		break;
+	case 2:
+		append_octets(RECORD_HEADER - 1);
+		break;
+	case 3:
+		append_stored(CONTENT_MAX + 1, CONTENT_MAX + 1, 0);
+		break;
+	case 4:
+		append_stored(2, 3, 2);
+		break;
+	default:
+		append_stored(2, 2, 1);
+		break;
+	}
+}
+
+/* File headers with numbers of which one or more are none of a capture's: nanoseconds, pcapng, bits turned, octets the other way
+ * round, more than 16 bits of a link type. Each is also cut by an octet. */
+static void header_fields(void)
+{
+	static const uint32_t magics[MAGICS] = { 0xa1b2c3d4, 0xd4c3b2a1, 0xa1b23c4d, 0x4d3cb2a1, 0x0a0d0d0a, 0xa1b2c3d5, 0 };
+	static const uint32_t versions[VERSIONS][2] = { { 2, 4 },         { 2, 3 },     { 2, 5 },     { 1, 4 }, { 3, 4 }, { 4, 2 },
+							{ 0x200, 0x400 }, { 0x102, 4 }, { 2, 0x104 } };
+	static const uint32_t link_types[LINK_TYPES] = { 274,     0,          1,          273,        275,       0x12010000,
+							 0x10112, 0x02000112, 0x14000112, 0xf0000112, 0xffffffff };
+	for (uint32_t i = 0; i < MAGICS * VERSIONS * LINK_TYPES * TAILS * ORDERS; i++) {
+		uint32_t which = i, begins = magics[choose(&which, MAGICS)];
+		const uint32_t *version = versions[choose(&which, VERSIONS)];
+		uint32_t link_type = link_types[choose(&which, LINK_TYPES)], tail = choose(&which, TAILS);
+		begin_capture_of(which, begins, version[0], version[1], link_type);
+		append_tail(tail);
+		convert_about(&reading);
+		given.length = FILE_HEADER - 1;
+		convert_about(&reading);
+	}
+}
+
+/* A capture without records, and a small one with three. */
+static void small_captures(bool high_first)
+{
+	begin_capture(high_first);
+	cut_each(&reading);
+	append_stored(3, 3, 3);
+	append_stored(0, 0, 0);
+	append_stored(5, 5, 5);
+	cut_each(&reading);
+	change_each(&reading);
+}
+
+static void long_capture(void)
+{
+	begin_capture(true);
+	for (unsigned i = 0; i < CONTENTS; i++)
+		append_stored(CONTENT_MAX, CONTENT_MAX, CONTENT_MAX);
+}
+
+static void many_stored(bool high_first)
+{
+	uint64_t value;
+	begin_capture(high_first);
+	for (unsigned i = 0; i < MANY_RECORDS; i++)
+		append_stored(0, 0, 0);
+	if (convert(&reading, 0, &value) != SEATPORT_CAPTURE_OUTPUT_SHORT || value != TRACE_HEADER * MANY_RECORDS)
+		fail("many records are not counted");
+	append_stored(7, 7, 0);
+	if (convert(&reading, 0, &value) != SEATPORT_CAPTURE_CONTENT_CUT || value != MANY_RECORDS + 1)
+		fail("the record behind many is not refused");
+}
+
+/* Makes a capture, now and then with lengths that are none, a bit turned, or an end too early. */
+static void some_capture(void)
+{
+	begin_capture(one_in(2));
+	while (given.length < 2 * MEMORY && !one_in(4)) {
+		uint32_t there = some_content();
+		uint32_t stored = one_in(40) ? odd_word() : there;
+		uint32_t original = one_in(40) ? odd_word() : stored;
+		append_stored(stored, original, there);
+	}
+	if (one_in(10)) {
+		uint32_t at = chance((uint32_t)given.length);
+		given.octets[at] ^= (uint8_t)(1 << chance(8));
+	}
+	if (one_in(2))
+		given.length -= chance(FILE_HEADER);
+}
+
+static void capture_read_all(void)
+{
+	static const unsigned numbers[] = { 0, 70, 71, 72, 73, 74, 75, 76, 77, 78 };
+	turn = 0;
+	small_captures(false);
+	small_captures(true);
+	stored_fields();
+	header_fields();
+	long_capture();
+	convert_about(&reading);
+	many_stored(false);
+	many_stored(true);
+	for (unsigned i = 0; i < CAPTURES; i++) {
+		some_capture();
+		convert_about(&reading);
+	}
+	reached("pcap read", numbers, sizeof numbers / sizeof numbers[0]);
+	all_written("octets", LONG_TRACE);
+	print_refused();
+	each("read with the low octets first, with the high ones first", read_in, ORDERS);
+}
+
+/* Turns numbers of so many octets the other way round, one behind the other. */
+static void turn_round(size_t at, size_t size, unsigned numbers)
+{
+	for (uint8_t *number = given.octets + at; numbers > 0; numbers--, number += size)
+		for (size_t i = 0; i < size / 2; i++) {
+			uint8_t octet = number[i];
+			number[i] = number[size - 1 - i];
+			number[size - 1 - i] = octet;
+		}
+}
+
+/* The capture that is given, low octets first, with the high ones first. */
+static void turn_capture(void)
+{
+	turn_round(0, 4, 1);
+	turn_round(4, 2, 2);
+	turn_round(8, 4, 4);
+	for (size_t at = FILE_HEADER; at < given.length;) {
+		size_t content = (size_t)(given.octets[at + 8] | given.octets[at + 9] << 8);
+		turn_round(at, 4, 4);
+		at += RECORD_HEADER + content;
+	}
+}
+
+static void read_back(const uint8_t *trace, size_t n)
+{
+	uint64_t value;
+	if (convert(&reading, n, &value) != SEATPORT_CAPTURE_GOOD || value != n)
+		fail("a capture is not read back");
+	same(port_file, trace, n, "another trace is read back");
+}
+
+/* The trace that is given, which is good: written, and read back in both orders. */
+static void round_trip(void)
+{
+	static uint8_t trace[LONG_TRACE];
+	uint64_t needed, value;
+	size_t n = given.length;
+	memcpy(trace, given.octets, n);
+	convert(&writing, 0, &needed);
+	if (convert(&writing, (size_t)needed, &value) != SEATPORT_CAPTURE_GOOD)
+		fail("a good trace is not written");
+	memcpy(given.octets, port_file, (size_t)value);
+	given.length = (size_t)value;
+	read_back(trace, n);
+	turn_capture();
+	read_back(trace, n);
+}
+
+static void good_trace(void)
+{
+	begin_trace();
+	while (given.length < 2 * MEMORY && !one_in(6)) {
+		uint32_t n = one_in(8) ? between(CONTENT_MAX - 2, CONTENT_MAX) : chance(100);
+		append_traced(n, 1, n);
+	}
+}
+
+static void round_trip_all(void)
+{
+	static const unsigned numbers[] = { 0, 78 };
+	turn = 0;
+	long_trace();
+	round_trip();
+	for (unsigned i = 0; i < ROUND_TRIPS; i++) {
+		good_trace();
+		round_trip();
+	}
+	reached("pcap both", numbers, sizeof numbers / sizeof numbers[0]);
+	all_written("octets", LONG_CAPTURE);
+}
+
 int main(void)
 {
 	send_all();
@@ -1054,6 +1535,9 @@ int main(void)
 	octet_all();
 	end_all();
 	run_all();
+	capture_write_all();
+	capture_read_all();
+	round_trip_all();
 	if (fflush(stdout) != 0 || ferror(stdout)) {
 		fputs("compare: the output could not be written.\n", stderr);
 		return 1;
