@@ -17,16 +17,16 @@ project := "$$(dirname -- "$$SEATPORT_MAKEFILE")"
 empty :=
 folder := $(subst $(empty) ,\ ,$(patsubst %Makefile,%,$(MAKEFILE_LIST)))
 
-.PHONY: help list holds test prove vectors drawings
+.PHONY: help list holds capture test prove vectors drawings
 
 help: ## shows these lines
 	@cd $(project) && sed -n 's/^\([a-z][a-z-]*\):.*## /\1 /p' Makefile $(INCLUDED) | \
 	    while read -r target words; do printf 'make %-9s %s\n' "$$target" "$$words"; done
 
 # Who names a file as a further goal would be shown the sample in its place.
-ifneq (,$(filter list holds,$(MAKECMDGOALS)))
+ifneq (,$(filter list holds capture,$(MAKECMDGOALS)))
 ifneq (1,$(words $(MAKECMDGOALS)))
-$(error A file is named so: make list TRACE=row.trace, make holds LIST=hall.gates)
+$(error A file is named so: make list TRACE=row.trace, make holds LIST=hall.gates, make capture TRACE=row.trace)
 endif
 endif
 
@@ -36,6 +36,9 @@ list: ## lists the sample that ships with the project, with TRACE=file another t
 
 holds: ## lists the holds and releases of a sample gate control list, with LIST=file of another; proves and builds what is missing
 	@$(project)/scripts/holds $(list)
+
+capture: ## writes the sample as a capture for Wireshark, with TRACE=file another trace, beside that; proves and builds what is missing
+	@$(project)/scripts/capture $(trace)
 
 test: ## the gate: proves and tests everything, from nothing
 	@$(project)/scripts/gate
