@@ -1,12 +1,14 @@
-"""The commands around the programs: scripts/list, scripts/holds, scripts/run-program and make, wherever called and whatever a file is named.
+"""The commands around the programs: scripts/list, scripts/holds, scripts/capture, scripts/run-program and make, wherever called and whatever a
+file is named.
 
-mmlist and mmholds must be built and unchanged (rt check mmlist mmholds). Where rt itself matters, a stand-in is on the path before it.
+mmlist, mmholds and mmpcap must be built and unchanged (rt check mmlist mmholds mmpcap). Where rt itself matters, a stand-in is on the path
+before it (played_kit.py).
 """
 
 import os
-import platform
 import re
 import select
+import shlex
 import shutil
 import signal
 import socket
@@ -16,8 +18,11 @@ import threading
 import unittest
 from pathlib import Path
 
+import played_kit
+from capture_octets import capture_of, contents_of
+
 ROOT = Path(__file__).resolve().parents[2]
-ON_X86_64 = unittest.skipUnless(platform.machine() == "x86_64", "elsewhere an emulator that stands beside rt runs programs")
+TRACES = ROOT / "tests" / "traces"
 
 # A line of rt.
 UNCHANGED = "echo 'rt: trace proved (unchanged since it was last proved)'"
@@ -25,7 +30,7 @@ UNCHANGED = "echo 'rt: trace proved (unchanged since it was last proved)'"
 # Names that a shell or make would take apart, or take for something else.
 NAMES = ("plain.file", "it's.file", 'a "b".file', "two  words.file", "$HOME.file", "$(x) `y`.file", "a#b.file",
          "$(shell touch carried_out)", "a$(b", "$(error no)", "${HOME}", "$$.file",
-         "a;b&c|d.file", "a*b?.file", "back\\slash.file", "-x.file", "--.file", "é.file")
+         "a;b&c|d.file", "a*b?.file", "back\\slash.file", "-x.file", "--.file", "é.file", "two\nlines.file")
 
 
 def make(*words):
@@ -100,7 +105,7 @@ class List(Given):
     two = "One trace is listed at a time, as in: scripts/list row.trace"
     unwritten = "mmlist: the listing could not be written."
     # A file that is refused, what is written of it all the same, and what is said.
-    refused = ("tests/traces/refused_53.trace", (ROOT / "tests/traces/refused_53.listing").read_bytes(),
+    refused = ("tests/traces/refused_53.trace", (TRACES / "refused_53.listing").read_bytes(),
                b"mmlist: record 7 is cut off: the trace ends inside it (53).\n")
 
 
@@ -111,6 +116,34 @@ class Holds(Given):
     two = "One list is read at a time, as in: scripts/holds hall.gates"
     unwritten = "mmholds: the events could not be written."
     refused = ("tests/schedules/length_4.gates", b"", b"mmholds: entry 5 has a length other than 5 (62).\n")
+
+
+class Capture(Given):
+    """The capture is a file, and the command says where."""
+
+    word, variable, program = "capture", "TRACE", "mmpcap"
+    unread, empty = List.unread, List.empty
+    two = "One capture is made at a time, as in: scripts/capture row.trace"
+
+    def sample(self):
+        """The trace that ships with the project, and what is said of its capture."""
+        word = shlex.quote(str(ROOT / "target" / "sample.pcap"))
+        said = f"{word} is written: open it in Wireshark, or list it with: tshark -r {word}\n"
+        return (ROOT / "crates" / "mmlist" / "stdin").read_bytes(), said.encode()
+
+    def lists(self, command, **how):
+        """The command writes the capture of the sample and says its name alone; that file, which is taken away again."""
+        done = self.run_in_folder(command, **how)
+        self.assertEqual((done.returncode, done.stderr), (0, b""))
+        told = re.fullmatch(rb"(.+) is written: open it in Wireshark, or list it with: tshark -r (.+)\n", done.stdout)
+        self.assertTrue(told, done.stdout)
+        # A shell takes the name out of the command that is told, as it would where that is copied.
+        words = [self.run_in_folder(["bash", "-c", b'printf "%s" ' + word]).stdout for word in told.groups()]
+        self.assertEqual(words[0], words[1])
+        capture = self.folder / os.fsdecode(words[0])
+        self.assertEqual(capture.read_bytes(), capture_of(contents_of(self.sample()[0])))
+        capture.unlink()
+        return capture
 
 
 class Names:
@@ -126,7 +159,8 @@ class Names:
     def test_a_name_that_make_takes_for_a_goal(self):
         done = self.run_in_folder([*self.make(), "a.file"])
         self.assertEqual((done.returncode, done.stdout), (2, b""))
-        self.assertIn(b"A file is named so: make list TRACE=row.trace, make holds LIST=hall.gates", done.stderr)
+        self.assertIn(b"A file is named so: make list TRACE=row.trace, make holds LIST=hall.gates, make capture TRACE=row.trace",
+                      done.stderr)
 
     def test_each_name_in_the_callers_folder(self):
         for name in NAMES:
@@ -177,7 +211,46 @@ class NamesOfLists(Names, Holds):
     pass
 
 
-class Streams:
+class NamesOfCaptures(Names, Capture):
+    # Of each trace, the capture.
+    ENDINGS = {"row.trace": "row.pcap", "row": "row.pcap", "row.trace.old": "row.trace.old.pcap", "row.trace.trace": "row.trace.pcap",
+               "row.TRACE": "row.TRACE.pcap", "row.pcap": "row.pcap.pcap", "rowtrace": "rowtrace.pcap", ".trace": ".pcap",
+               "sub/row.trace": "sub/row.pcap", "sub.trace/row": "sub.trace/row.pcap", "-x.trace": "-x.pcap", "./-": "./-.pcap",
+               "two  words.trace": "two  words.pcap", "it's.trace": "it's.pcap", "$HOME.trace": "$HOME.pcap",
+               "two\nlines.trace": "two\nlines.pcap", "a line\n": "a line\n.pcap"}
+
+    def test_endings(self):
+        for folder in ("sub", "sub.trace"):
+            (self.folder / folder).mkdir()
+        for name, capture in self.ENDINGS.items():
+            (self.folder / name).write_bytes(self.sample()[0])
+            for command in self.both(name):
+                with self.subTest(command=command):
+                    self.assertEqual(self.lists(command), self.folder / capture)
+
+    def test_the_sample_stands_in_target(self):
+        for command in self.both():
+            with self.subTest(command=command):
+                self.assertEqual(self.lists(command), ROOT / "target" / "sample.pcap")
+
+    def test_make_in_another_folder_takes_a_name_there(self):
+        (self.folder / "sub").mkdir()
+        (self.folder / "sub" / "row.trace").write_bytes(self.sample()[0])
+        done = self.run_in_folder([*self.make("row.trace"), "-C", "sub"])
+        self.assertEqual((done.returncode, done.stderr), (0, b""))
+        self.assertEqual(sorted(path.name for path in (self.folder / "sub").iterdir()), ["row.pcap", "row.trace"])
+
+    def test_standard_input_has_no_name(self):
+        sentence = ("A capture needs a name, and standard input has none to go by: scripts/run-program mmpcap write - row.pcap "
+                    "gives it one.")
+        for name in ("-", "/dev/stdin"):
+            with self.subTest(name=name):
+                self.refuses(self.script(name), sentence, input=self.sample()[0])
+                self.refuses(self.make(name), sentence, status=2, input=self.sample()[0])
+        self.assertEqual(list(self.folder.iterdir()), [])
+
+
+class Pipes:
     def test_a_named_pipe(self):
         pipe = self.folder / "pipe"
         os.mkfifo(pipe)
@@ -189,6 +262,8 @@ class Streams:
                 self.lists(command)
                 feeder.join()
 
+
+class Streams(Pipes):
     def test_standard_input(self):
         octets, _ = self.sample()
         (self.folder / "a.file").write_bytes(octets)
@@ -238,6 +313,36 @@ class StreamsOfLists(Streams, Holds):
     pass
 
 
+class FilesOfCaptures(Pipes, Capture):
+    def fails(self, command, sentence, status):
+        """The command says this sentence alone, and that nothing is written."""
+        before = sorted(path.name for path in self.folder.iterdir())
+        self.refuses(command, sentence, status)
+        self.assertEqual(sorted(path.name for path in self.folder.iterdir()), before)
+
+    def test_a_refused_trace(self):
+        shutil.copy(TRACES / "refused_53.trace", self.folder / "row.trace")
+        sentence = "mmpcap: record 7 is cut off: the trace ends inside it (53)."
+        for command, status in zip(self.both("row.trace"), (1, 2)):
+            with self.subTest(command=command):
+                self.fails(command, sentence, status)
+        (self.folder / "row.pcap").write_bytes(b"old")
+        self.fails(self.script("row.trace"), sentence, 1)
+        self.assertEqual((self.folder / "row.pcap").read_bytes(), b"old")
+
+    def test_an_old_capture_is_replaced(self):
+        (self.folder / "row.trace").write_bytes(self.sample()[0])
+        (self.folder / "row.pcap").write_bytes(b"old" * 100_000)
+        self.lists(self.script("row.trace"))
+
+    def test_a_name_that_is_taken(self):
+        (self.folder / "row.trace").write_bytes(self.sample()[0])
+        (self.folder / "row.pcap").mkdir()
+        for command, status in zip(self.both("row.trace"), (1, 2)):
+            with self.subTest(command=command):
+                self.fails(command, "mmpcap: the name of the capture is taken by what is no file that may be written.", status)
+
+
 class Proving:
     """What a script says of rt, which a stand-in plays."""
 
@@ -249,10 +354,7 @@ class Proving:
 
     def listing_with(self, script):
         """The script, begun, with this as rt."""
-        stand_in = self.folder / "rt"
-        stand_in.write_text(f"#!/bin/sh\n{script}\n")
-        stand_in.chmod(0o755)
-        return self.begun(self.script(), env={**os.environ, "PATH": f"{self.folder}:{os.environ['PATH']}"})
+        return self.begun(self.script(), env=played_kit.for_real_programs(self.folder, script))
 
     def ends(self, process, status, listing, said):
         self.assertEqual((*process.communicate(timeout=60), process.returncode), (listing, said, status))
@@ -288,17 +390,18 @@ class Proving:
         self.refuses(self.script(), "The Rattle kit is missing: there is no rt on the path.", env={"PATH": str(self.folder)})
 
 
-@ON_X86_64
 class ProvingMmlist(Proving, List):
     pass
 
 
-@ON_X86_64
 class ProvingMmholds(Proving, Holds):
     pass
 
 
-@ON_X86_64
+class ProvingMmpcap(Proving, Capture):
+    pass
+
+
 class RunProgram(Commands):
     """scripts/run-program in a project of its own, with a program that a shell plays."""
 
@@ -307,11 +410,16 @@ class RunProgram(Commands):
         (self.folder / "target" / "bin").mkdir(parents=True)
         shutil.copytree(ROOT / "scripts", self.folder / "scripts")
         self.command = [str(self.folder / "scripts" / "run-program"), "talks"]
+        self.environment = played_kit.for_played_programs(self.folder)
+
+    def run_in_folder(self, command, **how):
+        return super().run_in_folder(command, env=self.environment, **how)
+
+    def begun(self, command, **how):
+        return super().begun(command, env=self.environment, **how)
 
     def program(self, script):
-        path = self.folder / "target" / "bin" / "talks"
-        path.write_text(f"#!/bin/sh\n{script}\n")
-        path.chmod(0o755)
+        played_kit.executable(self.folder / "target" / "bin" / "talks", f"#!/bin/sh\n{script}\n")
 
     def ends(self, script, status, written, said, command=None):
         self.program(script)
@@ -366,7 +474,7 @@ class Help(Commands):
     def test_every_target_has_a_line(self):
         text = "".join((ROOT / name).read_text() for name in ("Makefile", "tests/c/c.mk"))
         targets = " ".join(re.findall(r"^\.PHONY: (.*)$", text, re.MULTILINE)).split()
-        self.assertLessEqual({"help", "list", "holds", "test", "c-test", "board", "bench"}, set(targets))
+        self.assertLessEqual({"help", "list", "holds", "capture", "test", "c-test", "board", "bench"}, set(targets))
         for command in (make("help"), make()):
             done = self.run_in_folder(command)
             self.assertEqual((done.returncode, done.stderr), (0, b""))

@@ -8,6 +8,7 @@ import os
 import pty
 import signal
 import subprocess
+import tempfile
 import unittest
 from pathlib import Path
 
@@ -17,8 +18,9 @@ ROOT = Path(__file__).resolve().parents[2]
 RUN = str(ROOT / "scripts" / "run-program")
 TRACES = ROOT / "tests" / "traces"
 QUESTIONS = ("test_ground", "test_send", "test_receive", "test_stream", "test_verify", "test_link", "test_gates")
-READING = ("mmlist", "mmholds", *QUESTIONS)
-WRITING = (*READING, "test_waits")
+LISTING = ("mmlist", "mmholds", *QUESTIONS)
+READING = (*LISTING, "mmpcap")
+WRITING = (*LISTING, "test_waits")
 
 # Of each program that runs questions: some that are cut off, unknown, or ask for more than any has: 2,049 octets, or
 # 301 entries or events.
@@ -49,6 +51,11 @@ SENTENCES = {
         "terminal": "a list is read from a file or from standard input, as in: mmholds hall.gates",
         "unread": "the list could not be read.",
         "unwritten": "the events could not be written.",
+    },
+    # What it writes goes to a file that it makes: test_mmpcap.py has where that fails.
+    "mmpcap": {
+        "terminal": "the trace is a terminal; name a file, or give it on standard input.",
+        "unread": "the trace could not be read.",
     },
 }
 OF_QUESTIONS = {
@@ -91,20 +98,30 @@ def stored(name):
     return source.read_bytes() if source.exists() else b"", (folder / "stdout").read_bytes()
 
 
-def run(name, redirection="", **streams):
+def run(name, *words, redirection="", **streams):
     """Runs a program, its streams redirected by the shell where Python cannot, as by `>&-`."""
     streams = {"stdout": subprocess.PIPE, "stderr": subprocess.PIPE, "timeout": 60, **streams}
-    return subprocess.run(["sh", "-c", f'exec "$@" {redirection}', "sh", RUN, name], check=False, **streams)
+    return subprocess.run(["sh", "-c", f'exec "$@" {redirection}', "sh", RUN, name, *words], check=False, **streams)
 
 
 class Failures(unittest.TestCase):
+    def setUp(self):
+        room = tempfile.TemporaryDirectory()
+        self.addCleanup(room.cleanup)
+        self.folder = Path(room.name)
+
+    def words(self, name):
+        """The words with which a program reads standard input: mmpcap must be told so, and what to make."""
+        return ("write", "-", str(self.folder / "row.pcap")) if name == "mmpcap" else ()
+
     def each(self, names, sentence, answers=lambda name: b"", **how):
-        """Each program writes its answers, here none, and says its sentence once; status 1 where there is one."""
+        """Each program writes its answers, here none, and says its sentence once; status 1 where there is one. No file is made."""
         for name in names:
             with self.subTest(name=name):
-                done = run(name, **how)
+                done = run(name, *self.words(name), **how)
                 self.assertEqual((done.stdout or b"", done.stderr), (answers(name), sentence(name)))
                 self.assertEqual(done.returncode, 1 if sentence(name) else 0)
+                self.assertEqual(list(self.folder.iterdir()), [])
 
 
 class Input(Failures):

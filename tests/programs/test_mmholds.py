@@ -9,12 +9,9 @@ test_failures.py has the inputs and outputs that fail for any program, test_comm
 
 import itertools
 import os
-import platform
 import pty
 import shlex
 import shutil
-import signal
-import subprocess
 import sys
 import tempfile
 import threading
@@ -22,20 +19,20 @@ import unittest
 from pathlib import Path
 
 import inputs
+import played_kit
 import played_mmholds
+from running import UNENDED, Called
 
 ROOT = Path(__file__).resolve().parents[2]
 SCHEDULES = ROOT / "tests" / "schedules"
 SAMPLE = ROOT / "crates" / "mmholds"
 PLAYER = Path(__file__).with_name("played_mmholds.py")
-ON_X86_64 = unittest.skipUnless(platform.machine() == "x86_64", "elsewhere an emulator that stands beside rt runs programs")
 
 AT_A_TERMINAL = b"mmholds: a list is read from a file or from standard input, as in: mmholds hall.gates\n"
 TWO = b"mmholds: one list is read at a time, as in: mmholds hall.gates\n"
 UNOPENED = b"mmholds: the list could not be opened.\n"
 UNREAD = b"mmholds: the list could not be read.\n"
 UNWRITTEN = b"mmholds: the events could not be written.\n"
-UNENDED = "mmholds did not end"
 
 # An entry.
 HOLD = bytes([1, 5, 128, 0, 0, 0, 10])
@@ -58,38 +55,13 @@ def names():
     return sorted(path.stem for path in SCHEDULES.glob("*.gates"))
 
 
-class Checks:
+class Checks(Called):
     """What mmholds is held to: the tests of a test case that takes them. It may have another command, which plays mmholds, and less patience."""
 
     command = [str(ROOT / "scripts" / "run-program"), "mmholds"]
-    patience = 60
-
-    def setUp(self):
-        room = tempfile.TemporaryDirectory()
-        self.addCleanup(room.cleanup)
-        self.folder = Path(room.name)
-
-    def said(self, *words, redirection="", stdin=subprocess.DEVNULL):
-        """What mmholds writes and says, called with these words; its status must be 1 exactly where it says anything."""
-        command = ["sh", "-c", f'exec "$@" {redirection}', "sh", *self.command, *words]
-        process = subprocess.Popen(command, cwd=self.folder, stdin=stdin, stdout=subprocess.PIPE, stderr=subprocess.PIPE,
-                                   start_new_session=True)
-        if stdin is not subprocess.DEVNULL:
-            stdin.close()
-        try:
-            output, sentence = process.communicate(timeout=self.patience)
-        except subprocess.TimeoutExpired:
-            os.killpg(process.pid, signal.SIGKILL)
-            process.communicate()
-            self.fail(UNENDED)
-        self.assertEqual(process.returncode, 1 if sentence else 0)
-        return output, sentence
 
     def file(self, octets, name="hall.gates"):
-        """A file of the folder that mmholds is called in."""
-        path = self.folder / name
-        path.write_bytes(octets)
-        return path
+        return super().file(octets, name)
 
     def test_stored_lists_by_name(self):
         for name in names():
@@ -258,7 +230,6 @@ TOLD_BY = {
 UNENDING = ("reads to the end", "reads at a terminal")
 
 
-@ON_X86_64
 class Played(unittest.TestCase):
     """The checks themselves, by programs in a project of their own that are right, or wrong in one thing."""
 
@@ -274,6 +245,7 @@ class Played(unittest.TestCase):
             program.write_text(f'#!/bin/sh\nexec {shlex.join([sys.executable, "-I", "-S", str(PLAYER), fault])} "$@"\n')
             program.chmod(0o755)
             Judging.command = [str(Path(project) / "scripts" / "run-program"), "mmholds"]
+            Judging.environment = played_kit.for_played_programs(Path(project))
             result = unittest.TestResult()
             result.failfast = True
             Judging(check).run(result)

@@ -5,11 +5,10 @@ for document 01's own example; here mmlist lists the traces of tests/traces, is 
 would hold. test_failures.py has inputs and outputs that fail.
 """
 
-import os
-import subprocess
-import threading
 import unittest
 from pathlib import Path
+
+import running
 
 ROOT = Path(__file__).resolve().parents[2]
 COMMAND = [str(ROOT / "scripts" / "run-program"), "mmlist"]
@@ -29,19 +28,7 @@ def stored(name):
 
 def fed(pieces):
     """The listing of a trace that comes in these pieces, and the most memory of any of its processes in KiB."""
-    process = subprocess.Popen(COMMAND, stdin=subprocess.PIPE, stdout=subprocess.PIPE, stderr=subprocess.DEVNULL)
-    listing = []
-    reader = threading.Thread(target=lambda: listing.append(process.stdout.read()))
-    reader.start()
-    for piece in pieces:
-        process.stdin.write(piece)
-        process.stdin.flush()
-    process.stdin.close()
-    reader.join()
-    process.stdout.close()
-    _, status, usage = os.wait4(process.pid, 0)
-    process.returncode = os.waitstatus_to_exitcode(status)
-    return listing[0], usage.ru_maxrss
+    return running.fed(COMMAND, pieces)
 
 
 class Stored(unittest.TestCase):
