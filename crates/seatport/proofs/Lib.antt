@@ -1,3 +1,4 @@
+pub mod Captured
 pub mod Once
 pub mod Packed
 pub mod Received

@@ -7,11 +7,13 @@ use Rattle.sender_answers.specs.Answers.{Outcome}
 use Rattle.trace.specs.Trace.{Said}
 use Rattle.gate_events.specs.Events.{Event}
 use Rattle.gates.specs.Gates as G
+use Rattle.pcap.specs.Captures as C
 use Rattle.seatport.specs.Sending.{Wrote, Sending, Sent}
 use Rattle.seatport.specs.Receiving.{Receiving, Received, partOf}
 use Rattle.seatport.specs.Streaming.{Ending, Ended}
 use Rattle.seatport.specs.Verifying.{Verifying, Taken}
 use Rattle.seatport.specs.Tracing.{Traced}
+use Rattle.seatport.specs.Capturing.{Captured}
 use Rattle.seatport.specs.Scheduling.{Scheduled, Listed}
 
 -- seatport_express, seatport_verify, seatport_respond
@@ -46,6 +48,11 @@ taken-once s p q = (p .answer ∙ sym (q .answer), (p .value ∙ sym (q .value),
 -- seatport_trace
 pub traced-once : (s : Said) {m n : ℕ} {v w : List ℕ} → Traced s m v → Traced s n w → (m ≡ n) × (v ≡ w)
 traced-once s p q = (p .answer ∙ sym (q .answer), p .words ∙ sym (q .words))
+
+-- seatport_capture_write, seatport_capture_read
+pub captured-once : (p : C.Outcome) (out : List ℕ) {m n v w : ℕ} {x y : List ℕ} → Captured p out m v x → Captured p out n w y
+    → (m ≡ n) × ((v ≡ w) × (x ≡ y))
+captured-once p out a b = (a .answer ∙ sym (b .answer), (a .goes-with ∙ sym (b .goes-with), a .output ∙ sym (b .output)))
 
 -- seatport_gates_read, seatport_gates_write
 pub scheduled-once : {A : Type 0} (o : G.Outcome A) (out : List A) {m n c d : ℕ} {x y : List A} → Scheduled o out m c x → Scheduled o out n d y

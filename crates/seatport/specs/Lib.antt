@@ -1,3 +1,4 @@
+pub mod Capturing
 pub mod Receiving
 pub mod Scheduling
 pub mod Sending

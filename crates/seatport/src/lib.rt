@@ -1,5 +1,6 @@
-// The port for C and Rust to link: an exported function for each public call of document 01, and of document 02, (i) and (iv), over numbers, lent
+// The port for C and Rust to link: an exported function for each public call of document 01, and of document 02, (i), (iv) and (vii), over numbers, lent
 // octets and words, and records that are words of 32 bits. include/seatport.h declares them.
+mod capturing;
 mod receiving;
 mod scheduling;
 mod sending;
@@ -7,6 +8,8 @@ mod streaming;
 mod tracing;
 mod verifying;
 
+pub use capturing::seatport_capture_read;
+pub use capturing::seatport_capture_write;
 pub use receiving::seatport_express_body;
 pub use receiving::seatport_receive;
 pub use scheduling::seatport_gates_events;
