@@ -1,11 +1,8 @@
 // The listing program: reads a trace on standard input, however it comes, and writes its listing. Memory does not grow with the trace: a
 // window of it, one frame in assembly and some lines are kept.
-mod parts;
-mod sentences;
+mod trouble;
 
-use crate::parts::front;
-use crate::parts::part;
-use crate::sentences::Trouble;
+use crate::trouble::Trouble;
 use libc::STDERR_FILENO;
 use libc::STDIN_FILENO;
 use libc::STDOUT_FILENO;
@@ -14,11 +11,11 @@ use receiver_record::Record;
 use trace::Cursor;
 use trace::Read;
 use trace::Refusal;
+use windows::LONGEST;
+use windows::front;
+use windows::part;
 ghost use Prim.Native.Nat.{_+_, _≤_};
 ghost use lib.ListN.{length};
-
-// A header and the longest content: where so many octets are in the window, or the input has ended, a record reads as in the whole trace.
-const ENOUGH: usize = 1604;
 
 // The longest line.
 const LINE: usize = 88;
@@ -36,58 +33,25 @@ struct Standing {
     going: bool,
 }
 
-// Writes what waits.
-fn write(out: &[u8], waiting: usize) -> bool {
-    if io::write_all(STDOUT_FILENO, front(out, waiting)) {
-        return true;
-    }
+// What waits could not be written, so that nothing more is listed.
+fn unwritten() {
     io::write_all(
         STDERR_FILENO,
         b"mmlist: the listing could not be written.\n",
     );
-    false
 }
 
-// The place for a line: behind what waits, or at the front once that is written, if it could be.
-struct Place {
-    at: usize,
-    free: bool,
-}
-
-fn place_for_line(out: &[u8], waiting: usize) -> Place
-    requires { ⌜ 88 ≤ length (now out) ⌝ }
-    ensures { λ r. ⌜ r .at + 88 ≤ length (now (out .entry)) ⌝ }
-{
-    if waiting <= out.len() - LINE {
-        return Place {
-            at: waiting,
-            free: true,
-        };
-    }
-    Place {
-        at: 0,
-        free: write(out, waiting),
-    }
-}
-
-// One more read behind what is left in the window, which goes to its front. Behind a read that fails nothing comes; what was read before is
-// listed all the same.
+// One more read. Behind one that fails nothing comes; what was read before is listed all the same.
 fn refill(s: Standing, window: &mut [u8]) -> Standing {
-    let mut spare = [0u8; ENOUGH];
-    let rest = front(part(window, s.from, s.to), ENOUGH);
-    let left = rest.len();
-    octets::copy_into(rest, &mut spare, 0);
-    octets::copy_into(front(&spare, left), window, 0);
-    let got = libc::read(STDIN_FILENO, &mut window[left..]);
-    let more = io::count(got, window);
+    let filled = windows::read_on(STDIN_FILENO, window, s.from, s.to);
     let mut trouble = Trouble::None;
-    if got < 0 {
+    if filled.failed {
         trouble = Trouble::Unread;
     }
     Standing {
         from: 0,
-        to: left + more,
-        ended: more == 0,
+        to: filled.to,
+        ended: filled.ended,
         trouble,
         ..s
     }
@@ -119,7 +83,7 @@ fn find(s: Standing, window: &[u8]) -> Found {
     if let Trouble::Refused(_) = trouble {
         return Found::End;
     }
-    if !s.ended && part(window, s.from, s.to).len() < ENOUGH {
+    if !s.ended && part(window, s.from, s.to).len() < LONGEST {
         return Found::Part;
     }
     let at = s.from;
@@ -186,10 +150,12 @@ fn finish(s: Standing, out: &mut [u8], at: usize)
         out,
         at,
     );
-    if write(out, next) {
-        let trouble = s.trouble;
-        trouble.say(s.number);
+    if !io::write_all(STDOUT_FILENO, front(out, next)) {
+        unwritten();
+        return;
     }
+    let trouble = s.trouble;
+    trouble.say(s.number);
 }
 
 // The line of what was found, where there is room for one.
@@ -200,7 +166,7 @@ fn put(
     buffer: &mut [u8; BODY_MOST],
     out: &mut [u8; 65536],
 ) -> Standing {
-    let place = place_for_line(out, s.waiting);
+    let place = windows::place_for(STDOUT_FILENO, out, s.waiting, LINE);
     let at = place.at;
     if place.free {
         match found {
@@ -211,6 +177,8 @@ fn put(
             Found::Refused(refusal) => return stop(s, refusal, out, at),
             Found::Part | Found::End => finish(s, out, at),
         }
+    } else {
+        unwritten();
     }
     let mut t = s;
     t.going = false;
