@@ -15,14 +15,15 @@ use Rattle.pcap_fields.specs.declared.Order.{Order}
 use Rattle.pcap_records.specs.Records.{header, storedAt, originalAt, recordAt}
 use Rattle.pcap_records.proofs.Laws.{read-end}
 
--- its content right behind the header, the next record right behind the content, all of it in the capture
-pub record Inside (s : List ℕ) (at place n next : ℕ) : Type 0 where
+-- its content right behind the header, the next record right behind the content, all of it in the capture; and what its header says
+pub record Inside (o : Order) (s : List ℕ) (at place n next : ℕ) : Type 0 where
   pub place-behind : place ≡ at + header
   pub next-behind : next ≡ place + n
   pub inside : next ≤ length s
   pub within : n ≤ limit
+  pub stored : storedAt o s at ≡ n
 
-pub found-inside : (o : Order) (s : List ℕ) (at place n next : ℕ) → recordAt o s at ≡ found place n next → Inside s at place n next
+pub found-inside : (o : Order) (s : List ℕ) (at place n next : ℕ) → recordAt o s at ≡ found place n next → Inside o s at place n next
 unfolding recordAt
 found-inside o s at place n next p =
     let w = passed (eqb (left s at) 0) (ltb (left s at) header) (ltb limit (storedAt o s at)) (not (eqb (storedAt o s at) (originalAt o s at))) (ltb (left s (at + header)) (storedAt o s at)) 74 75 76 77 place n next _ p in
@@ -30,7 +31,7 @@ found-inside o s at place n next p =
     let a : at + header ≡ place = cc in
     let b : storedAt o s at ≡ n = cc in
     let c : at + header + storedAt o s at ≡ next = cc in
-    omega (arith, ltb-false)
+    record { place-behind = omega arith; next-behind = omega arith; inside = omega (arith, ltb-false); within = omega (arith, ltb-false); stored = b }
 
 -- the end is said at the end only
 pub ended-over : (o : Order) (s : List ℕ) (at : ℕ) → recordAt o s at ≡ ended → length s ≤ at

@@ -27,7 +27,7 @@ remaining o s from = left-from (recordAt o s) s (capture-reading o s) recordOf t
 
 -- a record that is found at a place: its content's length, and how much is left behind it
 found-lengths : (o : Order) (s : List ℕ) (from place n next : ℕ) → recordAt o s from ≡ found place n next
-    → (Inside s from place n next) × (next - place ≡ n) × (length (take (next - place) (drop place s)) ≡ n) × (length (remaining o s from) ≡ 4 + n + length (remaining o s next))
+    → (Inside o s from place n next) × (next - place ≡ n) × (length (take (next - place) (drop place s)) ≡ n) × (length (remaining o s from) ≡ 4 + n + length (remaining o s next))
 found-lengths o s from place n next e =
     let w = found-inside o s from place n next e in
     let l : length (take n (drop place s)) ≡ n = length-take-le n (drop place s) (omega (arith, length-drop place s)) in
