@@ -16,7 +16,6 @@ use Rattle.trace_layout.proofs.Rest.{rest-found, rest-ended, rest-refused, ever
 use Rattle.trace_layout.proofs.Inside.{found-inside, trace-reading}
 use Rattle.trace_layout.proofs.Whole.{trace-whole}
 use Rattle.pcap_fields.specs.declared.Order.{Order}
-use Rattle.pcap_fields.specs.declared.Order.the-variants.{Little}
 use Rattle.pcap_records.specs.Records.{Opening, opens, openOf}
 use Rattle.pcap_records.proofs.Laws.{open-long}
 use Rattle.pcap_headers.specs.Headers.{captureOf}

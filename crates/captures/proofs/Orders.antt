@@ -1,27 +1,27 @@
 -- A capture is read the same in both byte orders.
 -- Assumes nothing.
-use mathlib.Core.Path.{_≡_, refl, sym, ap, ap₂, _∙_, subst}
-use mathlib.Core.Bool.{Bool, true, false, cond, not, _&&_}
-use mathlib.Core.List.{List, [], _∷_, _++_}
+use mathlib.Core.Path.{_≡_, refl, sym, ap, ap₂, _∙_}
+use mathlib.Core.Bool.{Bool, true, false, cond, not}
+use mathlib.Core.List.{List, _∷_, _++_}
 use Prim.Native.Nat.{ℕ, zero, suc, _+_, _-_, _≤_, _<_}
 use native.Mathlib.Omega.{arith}
 use borrow.Author.Tests.{ltb-true, ltb-false, le-ltb, eqb-true, eqb-false}
 use lib.Dec.{ltb, eqb}
-use lib.ListN.{length, take, drop, getD, length-append, length-drop, drop-of-length-le}
+use lib.ListN.{length, take, drop, getD, length-append, length-drop}
 use lib.Seq.{getD-drop, drop-drop, take-all, take-at, drop-at, length-take-le}
 use Rattle.rules.proofs.Tests.{tests, never, by-test}
 use Rattle.fours.specs.Word.{wordOf}
 use Rattle.trace.specs.Trace.{Said, found, ended, refused, limit, left}
 use Rattle.trace_layout.specs.Layout.{Listing, traceOf, restFrom}
 use Rattle.trace_layout.proofs.Rest.{rest-found, rest-ended, rest-refused, everywhere}
-use Rattle.pcap_fields.specs.Fields.{halfIn, wordIn}
+use Rattle.pcap_fields.specs.Fields.{wordIn}
 use Rattle.pcap_fields.specs.declared.Order.{Order}
 use Rattle.pcap_fields.specs.declared.Order.the-variants.{Little, Big}
-use Rattle.pcap_records.specs.Records.{fileHeader, header, magic, major, minor, linkType, Opening, opens, shut, versionFits, fieldsOf, openOf, storedAt, originalAt, recordAt}
+use Rattle.pcap_records.specs.Records.{fileHeader, header, magic, linkType, Opening, opens, shut, versionFits, fieldsOf, openOf, storedAt, originalAt, recordAt}
 use Rattle.pcap_records.proofs.Laws.{read-end, header-cut}
 use Rattle.pcap_lists.specs.Lists.{judged, recordsIn}
 use Rattle.pcap_lists.proofs.Inside.{found-inside, capture-reading}
-use Rattle.pcap.specs.Captures.{Outcome, outcome, readIn, readOf}
+use Rattle.pcap.specs.Captures.{outcome, readIn, readOf}
 use Rattle.captures.specs.Turned.{other, fileHeaderTurned, headerTurned, recordsTurned, orderOf, turned}
 use Rattle.captures.proofs.Calls.{Octets}
 

@@ -2,7 +2,7 @@
 -- Assumes nothing.
 use mathlib.Core.Path.{_≡_, refl, ap, ap₂, _∙_}
 use mathlib.Core.List.{List, [], _++_}
-use Prim.Native.Nat.{ℕ, _+_, _≤_, _<_, _^_}
+use Prim.Native.Nat.{ℕ, _+_, _/_, _%_, _≤_}
 use native.Mathlib.Omega.{arith}
 use lib.ListN.{length, take, drop, getD, length-append}
 use lib.Seq.{getD-append-add, take-append-seam, drop-append-add}
@@ -10,7 +10,8 @@ use Rattle.rules.proofs.Tests.{tests}
 use Rattle.fours.specs.Word.{octetsOf, wordOf}
 use Rattle.fours.proofs.Words.{word-back}
 use Rattle.trace.specs.Trace.{limit, found, ended}
-use Rattle.trace_layout.proofs.Laid.{Layout, Standing, laid-read}
+use Rattle.trace_layout.proofs.Laid.{Standing, laid-read}
+use Rattle.pcap_fields.specs.Fields.{wordIn}
 use Rattle.pcap_fields.specs.declared.Order.the-variants.{Little}
 use Rattle.pcap_records.specs.Records.{fileHeader, header, opens, openOf, storedAt, originalAt, recordAt}
 use Rattle.pcap_records.proofs.Laws.{read-whole}
@@ -23,31 +24,35 @@ use Rattle.pcap_contents.proofs.Turns.{capture-layout}
 
 -- a record behind any octets and before any others
 module _ (before c behind : List ℕ) (h : length c ≤ limit) where
-  abbrev around : List ℕ
-  around = before ++ (captureRecord c ++ behind)
+  abbrev laid-out : List ℕ
+  laid-out = captureRecord c ++ behind
 
-  at-place : (k j : ℕ) → j ≡ length before + k → getD around j 0 ≡ getD (captureRecord c ++ behind) k 0
-  at-place k j e = ap (λ (i : ℕ). getD around i 0) e ∙ getD-append-add before (captureRecord c ++ behind) k 0
+  abbrev around : List ℕ
+  around = before ++ laid-out
+
+  at-place : (k j : ℕ) → j ≡ length before + k → getD around j 0 ≡ getD laid-out k 0
+  at-place k j e = ap (λ (i : ℕ). getD around i 0) e ∙ getD-append-add before laid-out k 0
+
+  -- four octets of the record that are those of its length
+  length-at : (k : ℕ) → getD laid-out k 0 ≡ length c % 256 → getD laid-out (k + 1) 0 ≡ length c / 256 % 256
+      → getD laid-out (k + 2) 0 ≡ length c / 65536 % 256 → getD laid-out (k + 3) 0 ≡ length c / 16777216 % 256 → wordIn Little around (length before + k) ≡ length c
+  length-at k a b d e =
+      let at : ℕ = length before + k in
+      ap₂ (λ (x y : ℕ). wordOf x y (getD around (at + 2) 0) (getD around (at + 3) 0)) (at-place k at refl ∙ a) (at-place (k + 1) (at + 1) (omega arith) ∙ b)
+      ∙ ap₂ (wordOf (length c % 256) (length c / 256 % 256)) (at-place (k + 2) (at + 2) (omega arith) ∙ d) (at-place (k + 3) (at + 3) (omega arith) ∙ e)
+      ∙ word-back (length c) (omega arith)
 
   stored-read : storedAt Little around (length before) ≡ length c
   unfolding octetsOf
-  stored-read =
-      let at : ℕ = length before in
-      ap₂ (λ (x y : ℕ). wordOf x y (getD around (at + 8 + 2) 0) (getD around (at + 8 + 3) 0)) (at-place 8 (at + 8) refl) (at-place 9 (at + 8 + 1) (omega arith))
-      ∙ ap₂ (λ (x y : ℕ). wordOf (getD (captureRecord c ++ behind) 8 0) (getD (captureRecord c ++ behind) 9 0) x y) (at-place 10 (at + 8 + 2) (omega arith)) (at-place 11 (at + 8 + 3) (omega arith))
-      ∙ word-back (length c) (omega arith)
+  stored-read = length-at 8 refl refl refl refl
 
   original-read : originalAt Little around (length before) ≡ length c
   unfolding octetsOf
-  original-read =
-      let at : ℕ = length before in
-      ap₂ (λ (x y : ℕ). wordOf x y (getD around (at + 12 + 2) 0) (getD around (at + 12 + 3) 0)) (at-place 12 (at + 12) refl) (at-place 13 (at + 12 + 1) (omega arith))
-      ∙ ap₂ (λ (x y : ℕ). wordOf (getD (captureRecord c ++ behind) 12 0) (getD (captureRecord c ++ behind) 13 0) x y) (at-place 14 (at + 12 + 2) (omega arith)) (at-place 15 (at + 12 + 3) (omega arith))
-      ∙ word-back (length c) (omega arith)
+  original-read = length-at 12 refl refl refl refl
 
   around-length : length around ≡ length before + header + length c + length behind
   around-length =
-      omega (arith, length-append before (captureRecord c ++ behind), length-append (captureRecord c) behind, length-record c)
+      omega (arith, length-append before laid-out, length-append (captureRecord c) behind, length-record c)
 
   record-read : recordAt Little around (length before) ≡ found (length before + header) (length c) (length before + length (captureRecord c))
   record-read =
@@ -58,7 +63,7 @@ module _ (before c behind : List ℕ) (h : length c ≤ limit) where
 
   content-read : take (length c) (drop (length before + header) around) ≡ c
   unfolding octetsOf
-  content-read = ap (λ (x : List ℕ). take (length c) x) (drop-append-add before (captureRecord c ++ behind) header) ∙ take-append-seam c behind
+  content-read = ap (λ (x : List ℕ). take (length c) x) (drop-append-add before laid-out header) ∙ take-append-seam c behind
 
 stands : Standing (recordAt Little) (capture-reading Little) captureRecord captureRecords capture-layout
 stands before c behind h = record { place = length before + header; found-there = record-read before c behind h; content = content-read before c behind h }

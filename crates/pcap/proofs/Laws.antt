@@ -9,7 +9,7 @@ use lib.ListN.{length}
 use types.Run.{OneOf, miss}
 use Rattle.rules.proofs.Tests.{tests}
 use Rattle.octets.specs.Laid.{over}
-use Rattle.pcap_lists.specs.Lists.{Said, good, refused, short, said}
+use Rattle.pcap_lists.specs.Lists.{Said, good, short, said}
 use Rattle.pcap_lists.specs.declared.Answer.{Answer}
 use Rattle.pcap_lists.specs.declared.Answer.the-variants.{Good, Trace, Capture, Short}
 use Rattle.pcap_lists.proofs.Answer as answer

@@ -8,7 +8,7 @@ use lib.ListN.{length, take, drop, getD, length-append, length-drop}
 use lib.Seq.{length-take-le}
 use Rattle.rules.proofs.Tests.{never}
 use Rattle.trace.specs.Trace as trace
-use Rattle.trace_layout.specs.Layout.{Listing, recordOf, traceOf, restFrom, readAll}
+use Rattle.trace_layout.specs.Layout.{Listing, traceOf, restFrom, readAll}
 use Rattle.trace_layout.proofs.Rest.{rest-found, rest-ended, rest-refused, everywhere, rest-stops}
 use Rattle.trace_layout.proofs.Inside.{trace-reading}
 use Rattle.trace_layout.proofs.Whole.{trace-whole}
@@ -16,7 +16,7 @@ use Rattle.pcap_fields.specs.declared.Order.{Order}
 use Rattle.pcap_records.specs.Records.{fileHeader, recordAt}
 use Rattle.pcap_headers.specs.Headers.{captureRecord, captureRecords, captureOf}
 use Rattle.pcap_headers.proofs.Lengths.{length-record, length-records, length-capture}
-use Rattle.pcap_lists.specs.Lists.{Said, good, refused, behind, judged, recordsIn}
+use Rattle.pcap_lists.specs.Lists.{good, behind, judged, recordsIn}
 use Rattle.pcap_lists.proofs.Inside.{found-inside, ended-over, capture-reading}
 
 -- a good list ended well, and has as many contents as it is said to have

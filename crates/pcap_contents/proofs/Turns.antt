@@ -3,7 +3,6 @@
 use mathlib.Core.Path.{_≡_, refl, sym, ap, _∙_}
 use mathlib.Core.List.{List, [], _∷_, _++_}
 use Prim.Native.Nat.{ℕ, _+_, _-_, _≤_}
-use native.Mathlib.Omega.{arith}
 use denote.Enum.Declared.{tagOf}
 use lib.ListN.{length, take, drop, length-append}
 use types.Run.{OneOf, miss}
@@ -36,10 +35,13 @@ module _ (read : ℕ → Said) (s : List ℕ) (w : Reading read s) (one : List �
       → length (left-from from) ≡ length (one (take n (drop place s))) + length (left-from next)
   first-length from place n next e = ap length (first from place n next e) ∙ length-append (one (take n (drop place s))) (left-from next)
 
-  pub turn : (xs : List ℕ) (from place n next at k : ℕ) → read from ≡ found place n next → k ≡ at + length (one (take n (drop place s)))
-      → k + length (left-from next) ≤ length xs
-      → laid (laid xs at (one (take n (drop place s)))) k (left-from next) ≡ laid xs at (left-from from)
-  turn xs from place n next at k e h room = laid-laid xs _ _ at k h room ∙ ap (laid xs at) (sym (first from place n next e))
+  -- a turn: the part of s from the content to the next record is laid out
+  pub turn : (xs xs′ : List ℕ) (from place n next at k : ℕ) → read from ≡ found place n next → next - place ≡ n
+      → xs′ ≡ laid xs at (one (take (next - place) (drop place s))) → k ≡ at + length (one (take n (drop place s))) → k + length (left-from next) ≤ length xs
+      → laid xs′ k (left-from next) ≡ laid xs at (left-from from)
+  turn xs xs′ from place n next at k e d put h room =
+      ap (λ (l : List ℕ). laid l k (left-from next)) (put ∙ ap (λ (j : ℕ). laid xs at (one (take j (drop place s)))) d)
+      ∙ laid-laid xs _ _ at k h room ∙ ap (laid xs at) (sym (first from place n next e))
 
   -- where no record is found, nothing is left
   pub ends : (xs : List ℕ) (from at : ℕ) → read from ≡ ended → laid xs at (left-from from) ≡ xs

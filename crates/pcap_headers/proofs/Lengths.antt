@@ -6,7 +6,7 @@ use Prim.Native.Nat.{ℕ, _+_, _*_}
 use native.Mathlib.Omega.{arith}
 use lib.ListN.{length, length-append}
 use Rattle.fours.specs.Word.{octetsOf}
-use Rattle.trace_layout.specs.Layout.{recordOf, traceOf}
+use Rattle.trace_layout.specs.Layout.{traceOf}
 use Rattle.pcap_headers.specs.Headers.{fileHeader, captureRecord, captureRecords, captureOf}
 
 pub length-file-header : length fileHeader ≡ 24

@@ -1,14 +1,14 @@
 -- A trace that is read to its end is its contents laid out, and nothing else.
 -- Assumes nothing.
-use mathlib.Core.Path.{_≡_, refl, sym, ap, ap₂, _∙_}
-use mathlib.Core.List.{List, [], _∷_, _++_}
-use Prim.Native.Nat.{ℕ, zero, suc, _+_, _/_, _%_, _≤_, _<_}
+use mathlib.Core.Path.{_≡_, sym, ap, ap₂, _∙_}
+use mathlib.Core.List.{List, _∷_, _++_}
+use Prim.Native.Nat.{ℕ, _+_, _/_, _%_, _≤_, _<_}
 use native.Mathlib.Omega.{arith}
-use lib.ListN.{length, take, drop, getD, length-append, length-drop, take-append-drop, drop-of-length-le}
+use lib.ListN.{length, take, drop, getD, length-drop, take-append-drop, drop-of-length-le}
 use lib.Seq.{drop-drop, length-take-le}
 use Rattle.rules.proofs.Tests.{never}
 use Rattle.fours.proofs.Words.{four-of}
-use Rattle.trace.specs.Trace.{header, limit, kind, Said, found, ended, refused, littleEndian, lengthAt, kindAt, readAt}
+use Rattle.trace.specs.Trace.{kind, found, ended, refused, littleEndian, readAt}
 use Rattle.trace_layout.specs.Layout.{recordOf, traceOf, Listing, restFrom, readAll}
 use Rattle.trace_layout.proofs.Inside.{found-inside, ended-over, trace-reading}
 use Rattle.trace_layout.proofs.Rest.{rest-found, rest-ended, rest-refused, everywhere}

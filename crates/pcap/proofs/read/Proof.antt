@@ -1,3 +1,5 @@
+-- `pcap::read` meets its contract.
+-- Assumes nothing.
 use mathlib.Core.Path.{refl, sym, ap, _∙_, subst}
 use borrow.Author.Needs.{needs}
 use lib.ListN.{length}
@@ -8,34 +10,24 @@ use Rattle.pcap_records.proofs.Laws.{open-long}
 use Rattle.pcap.specs.Captures.{Outcome, Met, readIn}
 use Rattle.pcap.proofs.read.Statement.{statement}
 use Rattle.pcap.proofs.read.Tie as tie
-use Rattle.pcap.proofs.read.Reads as reads
-use Rattle.pcap.proofs.read.Lts as lts
-use Rattle.pcap.proofs.read_in.Reads as read-in-reads
-use Rattle.pcap_records.proofs.open.Reads as open-reads
 
--- src/lib.rt:80:9
 open-requires : tie.Need-open-requires
 open-requires c κs = search needs
 
--- src/lib.rt:82:22
 enum-known-opened : tie.Need-enum-known-opened
 enum-known-opened c = search needs
 
--- src/lib.rt:82:32
 read-in-requires : tie.Need-read-in-requires
 read-in-requires c κs =
     let e = sym (c .before .before .before .before .«open» .ensures) ∙ ap opening (c .before .before .opened .given .1) in
     open-long _ _ e
 
--- src/lib.rt:83:25
 enum-known-opened-2 : tie.Need-enum-known-opened-2
 enum-known-opened-2 c = search needs
 
--- src/lib.rt:77:1
 same-length : tie.Need-same-length
 same-length c = search needs
 
--- src/lib.rt:77:1
 returns : tie.Need-returns
 returns c =
     let a = c .before .before .before .before .before .before .before .before .before .before .args in
@@ -44,7 +36,6 @@ returns c =
     let p : Opening → Outcome = λ x. readIn x (a .capture .now) (length (a .trace .now)) in
     record { answer = r .answer ∙ ap (λ (x : Opening). p x .answer) (sym e); output = r .output ∙ ap (λ (x : Opening). over (p x .output) (a .trace .now)) (sym e) }
 
--- src/lib.rt:77:1
 returns-2 : tie.Need-returns-2
 returns-2 c =
     let a = c .before .before .before .before .before .before .args in

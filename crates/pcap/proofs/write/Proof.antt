@@ -1,38 +1,31 @@
+-- `pcap::write` meets its contract.
+-- Assumes nothing.
 use mathlib.Core.Path.{_≡_, sym, ap, _∙_, subst}
-use Prim.Native.Nat.{ℕ, _+_, _*_, _≤_}
+use Prim.Native.Nat.{_+_, _*_, _≤_}
 use native.Mathlib.Omega.{arith}
 use borrow.Author.Needs.{needs}
 use lib.ListN.{length}
 use Rattle.trace_layout.specs.Layout.{readAll}
 use Rattle.pcap_headers.specs.Headers.{captureOf}
-use Rattle.pcap_lists.specs.Lists.{said, judged}
+use Rattle.pcap_lists.specs.Lists.{said}
 use Rattle.pcap.specs.declared.Needed.{Needed}
 use Rattle.pcap.specs.Captures.{numbers, Tells}
 use Rattle.pcap.proofs.Laws.{met-refused, met-short, met-beyond, met-good}
 use Rattle.pcap.proofs.Lengths.{captured}
 use Rattle.pcap.proofs.write.Statement.{statement}
 use Rattle.pcap.proofs.write.Tie as tie
-use Rattle.pcap.proofs.write.Reads as reads
-use Rattle.pcap.proofs.write.Lts as lts
-use Rattle.pcap.proofs.capture_length.Reads as capture-length-reads
-use Rattle.pcap_contents.proofs.put_capture.Reads as put-capture-reads
-use Rattle.pcap_lists.proofs.of_trace.Reads as of-trace-reads
 
--- src/lib.rt:44:9
 of-trace-requires : tie.Need-of-trace-requires
 of-trace-requires c κs = search needs
 
--- src/lib.rt:45:22
 enum-known-judged : tie.Need-enum-known-judged
 enum-known-judged c = search needs
 
--- src/lib.rt:46:9
 returns : tie.Need-returns
 returns c =
     let a = c .before .before .before .before .args in
     met-refused (captureOf (readAll (a .trace .now) .contents)) (a .capture .now) (c .before .of-trace .result) _ (c .before .of-trace .ensures) (c .match .keys2)
 
--- src/lib.rt:48:9
 capture-length-requires : tie.Need-capture-length-requires
 capture-length-requires c κs =
     let a = c .before .before .before .before .before .before .args in
@@ -42,15 +35,12 @@ capture-length-requires c κs =
     let w = captured s n (λ k. omega (arith, c .before .before .before .before .before .shared-slice-known .given k)) g in
     omega (arith, w .least)
 
--- src/lib.rt:49:24
 enum-known-size : tie.Need-enum-known-size
 enum-known-size c = search needs
 
--- src/lib.rt:50:9
 enum-told : tie.Need-enum-told
 enum-told c = search needs
 
--- src/lib.rt:50:9
 returns-2 : tie.Need-returns-2
 returns-2 c =
     let a = c .before .before .before .before .before .before .before .before .before .args in
@@ -61,7 +51,6 @@ returns-2 c =
     let beyond : numbers ≤ 24 + length s + 12 * n = subst (λ (r : Needed). Tells r (24 + length s + 12 * n)) (c .enum-told .given .1) (c .before .before .capture-length .ensures) in
     met-beyond (captureOf (readAll s .contents)) (a .capture .now) n _ g (omega (arith, beyond, w .octets)) (omega arith)
 
--- src/lib.rt:53:9
 returns-3 : tie.Need-returns-3
 returns-3 c =
     let a = c .before .before .before .before .before .before .before .before .before .before .before .args in
@@ -72,7 +61,6 @@ returns-3 c =
     let t : _ ≡ 24 + length s + 12 * n = subst (λ (r : Needed). Tells r (24 + length s + 12 * n)) (c .before .before .size .given .1) (c .before .before .before .before .capture-length .ensures) in
     met-short (captureOf (readAll s .contents)) (a .capture .now) n _ _ g (t ∙ sym (w .octets)) (omega arith) (omega (arith, t, w .octets, c .if1 .taken))
 
--- src/lib.rt:55:5
 put-capture-requires : tie.Need-put-capture-requires
 put-capture-requires c κs =
     let a = c .before .before .before .before .before .before .before .before .before .before .before .before .args in
@@ -83,11 +71,9 @@ put-capture-requires c κs =
     let t : _ ≡ 24 + length s + 12 * n = subst (λ (r : Needed). Tells r (24 + length s + 12 * n)) (c .before .before .before .size .given .1) (c .before .before .before .before .before .capture-length .ensures) in
     omega (arith, t, w .octets, c .before .if1 .left)
 
--- src/lib.rt:41:1
 same-length : tie.Need-same-length
 same-length c = search needs
 
--- src/lib.rt:41:1
 returns-4 : tie.Need-returns-4
 returns-4 c =
     let a = c .before .before .before .before .before .before .before .before .before .before .before .before .before .before .before .args in

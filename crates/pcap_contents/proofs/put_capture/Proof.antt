@@ -27,11 +27,14 @@ remaining s from = left-from (readAt s) s (trace-reading s) captureRecord captur
 -- a record that is found at a place: its content's length, and how much is left behind it
 found-lengths : (s : List ℕ) (from place n next : ℕ) → readAt s from ≡ found place n next
     → (Inside s from place n next) × (next - place ≡ n) × (length (take (next - place) (drop place s)) ≡ n) × (length (remaining s from) ≡ 16 + n + length (remaining s next))
+    × (length (captureRecord (take n (drop place s))) ≡ 16 + n)
 found-lengths s from place n next e =
     let w = found-inside s from place n next e in
     let l : length (take n (drop place s)) ≡ n = length-take-le n (drop place s) (omega (arith, length-drop place s)) in
     let k : next - place ≡ n = omega arith in
-    (w, k, ap (λ (j : ℕ). length (take j (drop place s))) k ∙ l, omega (arith, l, length-record (take n (drop place s)), first-length (readAt s) s (trace-reading s) captureRecord captureRecords capture-layout from place n next e))
+    let r : length (captureRecord (take n (drop place s))) ≡ 16 + n = omega (arith, l, length-record (take n (drop place s))) in
+    let all = first-length (readAt s) s (trace-reading s) captureRecord captureRecords capture-layout from place n next e in
+    (w, k, ap (λ (j : ℕ). length (take j (drop place s))) k ∙ l, omega (arith, r, all), r)
 
 abbrev Inv-loop : tie.InvT-loop
 Inv-loop trace out₀ from₀ at₀ out from at =
@@ -144,13 +147,10 @@ loop-again c =
     let e = sym (c .before .before .before .before .before .before .before .before .read .ensures) ∙ ap said (c .before .before .before .before .before .before .read2 .given .1) in
     let w = found-lengths (a .trace .now) (l .from) _ _ _ e in
     let s = a .trace .now in
-    let g = c .before .before .before .before .before .before .read2 .given .0 in
-    let put = c .before .before .put-capture-record .ensures ∙ ap (λ (j : ℕ). laid (l .out) (l .at) (captureRecord (take j (drop (g .0) s)))) (w .1) in
-    let long : length (take (g .1 .0) (drop (g .0) s)) ≡ g .1 .0 = ap (λ (j : ℕ). length (take j (drop (g .0) s))) (sym (w .1)) ∙ w .2 in (
+    let at = l .at + (16 + c .before .before .before .before .before .before .read2 .given .0 .1 .0) in (
       omega (arith, w .3, l .inv .0, l .inv .1),
       omega (arith, l .inv .1),
-      ap (λ (xs : List ℕ). laid xs (l .at + (16 + g .1 .0)) (remaining s (g .1 .1 .0 .at))) put
-          ∙ turn (readAt s) s (trace-reading s) captureRecord captureRecords capture-layout (l .out) (l .from) (g .0) (g .1 .0) (g .1 .1 .0 .at) (l .at) (l .at + (16 + g .1 .0)) e (omega (arith, long, length-record (take (g .1 .0) (drop (g .0) s)))) (omega (arith, w .3, l .inv .0))
+      turn (readAt s) s (trace-reading s) captureRecord captureRecords capture-layout (l .out) _ (l .from) _ _ _ (l .at) at e (w .1) (c .before .before .put-capture-record .ensures) (omega (arith, w .4)) (omega (arith, w .3, l .inv .0))
           ∙ l .inv .2,
     )
 

@@ -5,7 +5,7 @@ use mathlib.Core.List.{List}
 use Prim.Native.Nat.{ℕ, _+_, _-_, _≤_}
 use native.Mathlib.Omega.{arith}
 use borrow.Author.Needs.{needs}
-use lib.ListN.{length, take, drop, length-append, length-drop}
+use lib.ListN.{length, take, drop, length-drop}
 use lib.Seq.{length-take-le}
 use Rattle.octets.specs.Laid.{laid}
 use Rattle.octets.proofs.Laid.{laid-front}
@@ -28,11 +28,14 @@ remaining o s from = left-from (recordAt o s) s (capture-reading o s) recordOf t
 -- a record that is found at a place: its content's length, and how much is left behind it
 found-lengths : (o : Order) (s : List ℕ) (from place n next : ℕ) → recordAt o s from ≡ found place n next
     → (Inside o s from place n next) × (next - place ≡ n) × (length (take (next - place) (drop place s)) ≡ n) × (length (remaining o s from) ≡ 4 + n + length (remaining o s next))
+    × (length (recordOf (take n (drop place s))) ≡ 4 + n)
 found-lengths o s from place n next e =
     let w = found-inside o s from place n next e in
     let l : length (take n (drop place s)) ≡ n = length-take-le n (drop place s) (omega (arith, length-drop place s)) in
     let k : next - place ≡ n = omega arith in
-    (w, k, ap (λ (j : ℕ). length (take j (drop place s))) k ∙ l, omega (arith, l, first-length (recordAt o s) s (capture-reading o s) recordOf traceOf trace-layout from place n next e))
+    let r : length (recordOf (take n (drop place s))) ≡ 4 + n = omega (arith, l) in
+    let all = first-length (recordAt o s) s (capture-reading o s) recordOf traceOf trace-layout from place n next e in
+    (w, k, ap (λ (j : ℕ). length (take j (drop place s))) k ∙ l, omega (arith, r, all), r)
 
 abbrev Inv-loop : tie.InvT-loop
 Inv-loop order capture out₀ from₀ at₀ out from at =
@@ -125,13 +128,10 @@ loop-again c =
     let e = sym (c .before .before .before .before .before .before .before .before .record-at .ensures) ∙ ap said (c .before .before .before .before .before .before .read .given .1) in
     let w = found-lengths (a .order) (a .capture .now) (l .from) _ _ _ e in
     let s = a .capture .now in
-    let g = c .before .before .before .before .before .before .read .given .0 in
-    let put = c .before .before .put-trace-record .ensures ∙ ap (λ (j : ℕ). laid (l .out) (l .at) (recordOf (take j (drop (g .0) s)))) (w .1) in
-    let long : length (take (g .1 .0) (drop (g .0) s)) ≡ g .1 .0 = ap (λ (j : ℕ). length (take j (drop (g .0) s))) (sym (w .1)) ∙ w .2 in (
+    let at = l .at + (4 + c .before .before .before .before .before .before .read .given .0 .1 .0) in (
       omega (arith, w .3, l .inv .0, l .inv .1),
       omega (arith, l .inv .1),
-      ap (λ (xs : List ℕ). laid xs (l .at + (4 + g .1 .0)) (remaining (a .order) s (g .1 .1 .0))) put
-          ∙ turn (recordAt (a .order) s) s (capture-reading (a .order) s) recordOf traceOf trace-layout (l .out) (l .from) (g .0) (g .1 .0) (g .1 .1 .0) (l .at) (l .at + (4 + g .1 .0)) e (omega (arith, long)) (omega (arith, w .3, l .inv .0))
+      turn (recordAt (a .order) s) s (capture-reading (a .order) s) recordOf traceOf trace-layout (l .out) _ (l .from) _ _ _ (l .at) at e (w .1) (c .before .before .put-trace-record .ensures) (omega (arith, w .4)) (omega (arith, w .3, l .inv .0))
           ∙ l .inv .2,
     )
 

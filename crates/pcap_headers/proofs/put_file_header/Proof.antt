@@ -1,7 +1,5 @@
 -- `pcap_headers::put_file_header` meets its contract.
 -- Assumes nothing.
-use mathlib.Core.Path.{refl}
-use native.Mathlib.Omega.{arith}
 use borrow.Author.Needs.{needs}
 use Rattle.fours.specs.Word.{octetsOf}
 use Rattle.pcap_headers.proofs.put_file_header.Statement.{statement}

@@ -1,6 +1,6 @@
 -- `pcap_headers::put_trace_record` meets its contract.
 -- Assumes nothing.
-use mathlib.Core.Path.{_≡_, refl, ap, _∙_}
+use mathlib.Core.Path.{refl, ap, _∙_}
 use mathlib.Core.List.{List, [], _∷_}
 use Prim.Native.Nat.{ℕ, _+_}
 use native.Mathlib.Omega.{arith}
@@ -9,8 +9,6 @@ use lib.ListN.{length, getD}
 use Rattle.fours.specs.Word.{octetsOf}
 use Rattle.octets.specs.Laid.{laid}
 use Rattle.octets.proofs.Laid.{laid-laid}
-use Rattle.trace.specs.Trace.{kind}
-use Rattle.trace_layout.specs.Layout.{twoOctets}
 use Rattle.pcap_headers.proofs.put_trace_record.Statement.{statement}
 use Rattle.pcap_headers.proofs.put_trace_record.Tie as tie
 
