@@ -1,4 +1,4 @@
-/* What a C library has of <string.h>, as far as port, plain C and tests use it. */
+/* What a C library and the compiler's own have, as far as port, plain C and tests use it. */
 #include <stdint.h>
 #include <string.h>
 
@@ -138,4 +138,14 @@ void __aeabi_memclr4(void *to, size_t n)
 void __aeabi_memclr8(void *to, size_t n)
 {
 	memset(to, 0, n);
+}
+
+/* Numbers of 64 bits multiplied, which a Cortex-M0 cannot by itself. */
+uint64_t __aeabi_lmul(uint64_t a, uint64_t b)
+{
+	uint64_t sum = 0;
+	for (; b != 0; b >>= 1, a <<= 1)
+		if ((b & 1) != 0)
+			sum += a;
+	return sum;
 }

@@ -46,6 +46,15 @@ static struct seatport_gate_event port_events[ENTRIES];
 static struct plain_gate_event plain_events[ENTRIES];
 static uint64_t port_cycle, plain_cycle;
 
+/* And of captures: presses, and records of no octets, of which a file of one length has the most. */
+enum { PRESSES = 16, EMPTY_RECORDS = 64, PRESS_MFRAME = 72, TRACE_HEADER = 4 };
+enum { PRESSES_TRACED = PRESSES * (TRACE_HEADER + PRESS_MFRAME), EMPTY_TRACED = EMPTY_RECORDS * TRACE_HEADER };
+enum { HEADER = SEATPORT_CAPTURE_SIZE_HEADER, RECORD_HEADER = SEATPORT_CAPTURE_SIZE_RECORD_HEADER };
+enum { PRESSES_CAPTURED = HEADER + PRESSES * (RECORD_HEADER + PRESS_MFRAME), EMPTY_CAPTURED = HEADER + EMPTY_RECORDS * RECORD_HEADER };
+static uint8_t file[PRESSES_CAPTURED];
+static uint32_t file_length;
+static uint64_t port_value, plain_value;
+
 static void clear(void)
 {
 	for (uint32_t i = 0; i < PRESS; i++)
@@ -91,7 +100,7 @@ int row_agrees(void)
 	       memcmp(&port_receiver, &plain_receiver, sizeof port_receiver) == 0 &&
 	       memcmp(port_area, plain_area, sizeof port_area) == 0 &&
 	       memcmp(&port_stream, &plain_stream, sizeof port_stream) == 0 &&
-	       memcmp(&port_written, &plain_written, sizeof port_written) == 0 && port_cycle == plain_cycle &&
+	       memcmp(&port_written, &plain_written, sizeof port_written) == 0 && port_cycle == plain_cycle && port_value == plain_value &&
 	       memcmp(port_entries, plain_entries, sizeof port_entries) == 0 &&
 	       memcmp(port_events, plain_events, sizeof port_events) == 0;
 }
@@ -498,6 +507,73 @@ static void plain_lists_events(void)
 	plain_answer = (uint32_t)plain_gates_events(list, sizeof list, plain_events, ENTRIES, &plain_detail, &plain_cycle);
 }
 
+/* Captures */
+
+/* A trace of so many records, each with as many octets. */
+static void traced(uint32_t records, uint32_t octets)
+{
+	clear();
+	for (file_length = 0; records > 0; records--) {
+		file[file_length] = (uint8_t)octets;
+		file[file_length + 1] = 0;
+		file[file_length + 2] = 1;
+		file[file_length + 3] = 0;
+		memcpy(file + file_length + TRACE_HEADER, photograph, octets);
+		file_length += TRACE_HEADER + octets;
+	}
+}
+
+/* Its capture in its place. */
+static void captured(uint32_t records, uint32_t octets)
+{
+	uint64_t n;
+	traced(records, octets);
+	plain_capture_write(file, file_length, plain_memory, sizeof plain_memory, &n);
+	file_length = (uint32_t)n;
+	memcpy(file, plain_memory, file_length);
+	memset(plain_memory, 0xa5, sizeof plain_memory);
+}
+
+static void presses_traced(void)
+{
+	traced(PRESSES, PRESS_MFRAME);
+}
+
+static void presses_captured(void)
+{
+	captured(PRESSES, PRESS_MFRAME);
+}
+
+static void empty_traced(void)
+{
+	traced(EMPTY_RECORDS, 0);
+}
+
+static void empty_captured(void)
+{
+	captured(EMPTY_RECORDS, 0);
+}
+
+static void port_writes_capture(void)
+{
+	port_answer = seatport_capture_write(file, file_length, port_memory, sizeof port_memory, &port_value);
+}
+
+static void plain_writes_capture(void)
+{
+	plain_answer = (uint32_t)plain_capture_write(file, file_length, plain_memory, sizeof plain_memory, &plain_value);
+}
+
+static void port_reads_capture(void)
+{
+	port_answer = seatport_capture_read(file, file_length, port_memory, sizeof port_memory, &port_value);
+}
+
+static void plain_reads_capture(void)
+{
+	plain_answer = (uint32_t)plain_capture_read(file, file_length, plain_memory, sizeof plain_memory, &plain_value);
+}
+
 const struct row rows[] = {
 	{ "express 72 received", PRESS, express_short, no_receiving, port_receives, plain_receives },
 	{ "express 1,530 received", PHOTOGRAPH, express_long, no_receiving, port_receives, plain_receives },
@@ -529,6 +605,10 @@ const struct row rows[] = {
 	{ "list of 256 entries read", LIST, longest_list, nothing, port_reads_list, plain_reads_list },
 	{ "list of 256 entries written", LIST, longest_list, nothing, port_writes_list, plain_writes_list },
 	{ "list of 256 entries, its events", LIST, longest_list, nothing, port_lists_events, plain_lists_events },
+	{ "trace of 16 presses written", PRESSES_TRACED, presses_traced, nothing, port_writes_capture, plain_writes_capture },
+	{ "trace of 64 empty ones written", EMPTY_TRACED, empty_traced, nothing, port_writes_capture, plain_writes_capture },
+	{ "capture of 16 presses read", PRESSES_CAPTURED, presses_captured, nothing, port_reads_capture, plain_reads_capture },
+	{ "capture of 64 empty ones read", EMPTY_CAPTURED, empty_captured, nothing, port_reads_capture, plain_reads_capture },
 };
 
 const unsigned row_count = sizeof rows / sizeof rows[0];

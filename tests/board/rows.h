@@ -8,8 +8,8 @@
 
 struct row {
 	const char *name;
-	uint32_t octets;       /* data octets that the call sums and copies, or the octets of the photograph or the list */
-	void (*prepare)(void); /* makes the row's mFrame and records, or its list */
+	uint32_t octets;       /* data octets that the call sums and copies, or the octets of the photograph, the list or the file */
+	void (*prepare)(void); /* makes the row's mFrame and records, its list or its file */
 	void (*nothing)(void); /* what port and plain do besides the call */
 	void (*port)(void);
 	void (*plain)(void);

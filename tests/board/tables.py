@@ -92,10 +92,10 @@ def depth(name, codes, way=()):
 
 
 def limit_of(name, octets):
-    """The goal of a row, or None. A call on a list, which sums nothing, has that of a short one."""
+    """The goal of a row, or None. A call on a list, a trace or a capture, which sums nothing, has that of a short one."""
     if name in NO_RATIO:
         return None
-    return LONG_RATIO if octets >= LONG and not name.startswith("list ") else SHORT_RATIO
+    return LONG_RATIO if octets >= LONG and not name.startswith(("list ", "trace ", "capture ")) else SHORT_RATIO
 
 
 def needs_as_said(options, names):
