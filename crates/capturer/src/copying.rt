@@ -3,24 +3,15 @@
 use crate::trouble::File;
 use crate::trouble::Trouble;
 use pcap_fields::Order;
+use pcap_records::FILE_HEADER;
 use pcap_records::Opened;
 use trace::Cursor;
+use trace::LIMIT;
 use windows::LONGEST;
 use windows::front;
 use windows::part;
 ghost use Prim.Native.Nat.{_+_, _≤_};
 ghost use lib.ListN.{length};
-
-// The octets of a capture's header.
-const FILE_HEADER: usize = 24;
-
-// The greatest length of a content.
-const LIMIT: usize = 1600;
-
-// The octets of a record's header: in a capture, and in a trace.
-const CAPTURE_HEADER: usize = 16;
-
-const TRACE_HEADER: usize = 4;
 
 // What stands next in the input.
 enum Next {
@@ -143,11 +134,11 @@ fn put_record(made: File, content: &[u8], out: &mut [u8], at: usize) -> usize
     match made {
         File::Capture => {
             pcap_headers::put_capture_record(content, out, at);
-            at + CAPTURE_HEADER + content.len()
+            at + pcap_records::HEADER + content.len()
         }
         File::Trace => {
             pcap_headers::put_trace_record(content, out, at);
-            at + TRACE_HEADER + content.len()
+            at + trace::HEADER + content.len()
         }
     }
 }

@@ -40,6 +40,14 @@ fn settle(trouble: Trouble, part: &[u8], target: &[u8]) -> Trouble {
     Trouble::Unnamed
 }
 
+// Fills the new file, where its name can be had: in a folder in which it could be made, what cannot be opened stands there itself.
+fn fill(made: File, input: i32, output: i32, target: &[u8]) -> Trouble {
+    if !names::is_free(target) {
+        return Trouble::Taken;
+    }
+    copying::copy_all(made, input, output)
+}
+
 // Makes the file beside its name, and gives it that.
 fn make_beside(made: File, input: i32, target: &[u8]) -> Trouble
     requires { ⌜ length (now target) ≤ 4089 ⌝ }
@@ -51,7 +59,7 @@ fn make_beside(made: File, input: i32, target: &[u8]) -> Trouble
     if output < 0 {
         return Trouble::Unmade;
     }
-    let trouble = close(output, copying::copy_all(made, input, output));
+    let trouble = close(output, fill(made, input, output, target));
     settle(trouble, front(&name, end), target)
 }
 
@@ -63,19 +71,16 @@ fn make_from(made: File, input: i32, target: &[u8]) -> Trouble {
     if target.len() == 0 || target.len() > NAME {
         return Trouble::Unmade;
     }
-    if !names::is_free(target) {
-        return Trouble::Taken;
-    }
     make_beside(made, input, target)
 }
 
 // From the file of a name, or from standard input.
 fn make_named(made: File, source: &[u8], target: &[u8]) -> Trouble {
-    if source.len() > 0 && same(source, target) {
-        return Trouble::SameName;
-    }
     if same(source, b"-") {
         return make_from(made, STDIN_FILENO, target);
+    }
+    if source.len() > 0 && same(source, target) {
+        return Trouble::SameName;
     }
     let input = os::open_read(source);
     if input < 0 {

@@ -3,7 +3,7 @@
 use mathlib.Core.Path.{_≡_, refl, sym, ap, ap₂, _∙_, subst}
 use mathlib.Core.Bool.{Bool, true, false, cond}
 use mathlib.Core.List.{List, [], _∷_}
-use Prim.Native.Nat.{ℕ, zero, suc, _+_, _*_, _≤_, _<_}
+use Prim.Native.Nat.{ℕ, zero, suc, _+_, _-_, _*_, _≤_, _<_}
 use native.Mathlib.Omega.{arith}
 use lib.Dec.{ltb}
 use lib.ListN.{length, take, drop, getD, length-drop}
@@ -22,11 +22,8 @@ use Rattle.pcap_headers.specs.Headers.{captureOf}
 use Rattle.pcap_lists.specs.Lists.{Said, good, refused, short, valueOf, judged, recordsIn}
 use Rattle.pcap.specs.Captures.{told, Outcome, outcome, Met, writeOf, readIn, readOf}
 use Rattle.pcap.proofs.Lengths.{good-trace, captured, uncaptured}
+use Rattle.captures.specs.Typed.{Octets}
 use Rattle.captures.proofs.Readback.{capture-opens, capture-back}
-
--- octets, as they stand in memory
-abbrev pub Octets : List ℕ → Type 0
-Octets s = (k : ℕ) → getD s k 0 < 256
 
 -- no content of a trace is longer than the limit
 module _ (s : List ℕ) where
@@ -112,28 +109,32 @@ there-and-back s o capture capture′ n w lent lent′ a r h =
     let same = ap (λ (x : List ℕ). readOf x (length lent)) front ∙ read-of-written s o (written .records) (length lent) (written .was-good) in
     has-room s lent (good (written .records)) a lent′ (written .records) refl (subst (λ (p : Outcome). Met p lent a lent′) same r) h
 
--- the length needed is known before: from the length of what is given and the number of its records
+-- the length needed is known before, from the length of what is given and the number of its records: with as much room all of it is written, with
+-- less nothing, and the length is told
+pub record Known (n : ℕ) (xs out : List ℕ) (a : Said) (out′ : List ℕ) : Type 0 where
+  pub enough : n ≤ length out → (a ≡ good n) × (out′ ≡ over xs out)
+  pub too-little : length out < n → (a ≡ short (told n)) × (out′ ≡ out)
+
+known : (xs out : List ℕ) (s a : Said) (out′ : List ℕ) (k n : ℕ) → s ≡ good k → Met (outcome s xs (length out)) out a out′ → length xs ≡ n → Known n xs out a out′
+known xs out s a out′ k n g m l =
+    record {
+      enough = λ h. let r = has-room xs out s a out′ k g m (omega arith) in (r .0 ∙ ap good l, r .1);
+      too-little = λ h. let r = has-none xs out s a out′ k g m (omega arith) in (r .0 ∙ ap (λ (i : ℕ). short (told i)) l, r .1);
+    }
+
 pub write-known : (s : List ℕ) → Octets s → (k : ℕ) → judged (readAll s) ≡ good k → (out out′ : List ℕ) (a : Said) → Met (writeOf s (length out)) out a out′
-    → (24 + length s + 12 * k ≤ length out → a ≡ good (24 + length s + 12 * k)) × (length out < 24 + length s + 12 * k → a ≡ short (told (24 + length s + 12 * k)))
-write-known s o k g out out′ a m =
-    let c : List ℕ = captureOf (readAll s .contents) in
-    let l = captured s k o g .octets in
-    (λ h. has-room c out (judged (readAll s)) a out′ k g m (omega arith) .0 ∙ ap good l, λ h. has-none c out (judged (readAll s)) a out′ k g m (omega arith) .0 ∙ ap (λ (n : ℕ). short (told n)) l)
+    → Known (24 + length s + 12 * k) (captureOf (readAll s .contents)) out a out′
+write-known s o k g out out′ a m = known (captureOf (readAll s .contents)) out (judged (readAll s)) a out′ k _ g m (captured s k o g .octets)
 
--- and never more than 24 octets and four times as many
-pub write-most : (s : List ℕ) → Octets s → (k : ℕ) → judged (readAll s) ≡ good k → 24 + length s + 12 * k ≤ 24 + 4 * length s
-write-most s o k g = let l = captured s k o g .least in omega arith
+pub read-known : (s : List ℕ) (o : Order) → openOf s ≡ opens o → (k : ℕ) → judged (recordsIn o s) ≡ good k → (out out′ : List ℕ) (a : Said)
+    → Met (readOf s (length out)) out a out′ → Known (length s - 24 - 12 * k) (traceOf (recordsIn o s .contents)) out a out′
+read-known s o e k g out out′ a m =
+    known (traceOf (recordsIn o s .contents)) out (judged (recordsIn o s)) a out′ k _ g (subst (λ (x : Opening). Met (readIn x s (length out)) out a out′) e m)
+    (let u = uncaptured o s k (open-long s o e) g in omega arith)
 
-module _ (s : List ℕ) (o : Order) (e : openOf s ≡ opens o) (k : ℕ) (g : judged (recordsIn o s) ≡ good k) (n : ℕ) (l : n + 12 * k + 24 ≡ length s)
-    (out out′ : List ℕ) (a : Said) (m : Met (readOf s (length out)) out a out′) where
-  exact : length (traceOf (recordsIn o s .contents)) ≡ n
-  exact = let u = uncaptured o s k (open-long s o e) g in omega arith
-
-  opened : Met (outcome (judged (recordsIn o s)) (traceOf (recordsIn o s .contents)) (length out)) out a out′
-  opened = subst (λ (x : Opening). Met (readIn x s (length out)) out a out′) e m
-
-  pub read-known : (n ≤ length out → a ≡ good n) × (length out < n → a ≡ short (told n))
-  read-known =
-      let x = exact in
-      let t : List ℕ = traceOf (recordsIn o s .contents) in
-      (λ h. has-room t out (judged (recordsIn o s)) a out′ k g opened (omega arith) .0 ∙ ap good x, λ h. has-none t out (judged (recordsIn o s)) a out′ k g opened (omega arith) .0 ∙ ap (λ (i : ℕ). short (told i)) x)
+-- a capture never has more than 24 octets and four times as many as its trace
+pub write-most : (s : List ℕ) → Octets s → (k : ℕ) → judged (readAll s) ≡ good k → length (captureOf (readAll s .contents)) ≤ 24 + 4 * length s
+write-most s o k g =
+    let l = captured s k o g .least in
+    let n = captured s k o g .octets in
+    omega arith

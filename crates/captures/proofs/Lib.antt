@@ -1,3 +1,4 @@
 pub mod Calls
 pub mod Orders
 pub mod Readback
+pub mod Window

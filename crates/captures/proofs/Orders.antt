@@ -5,34 +5,25 @@ use mathlib.Core.Bool.{Bool, true, false, cond, not}
 use mathlib.Core.List.{List, _∷_, _++_}
 use Prim.Native.Nat.{ℕ, zero, suc, _+_, _-_, _≤_, _<_}
 use native.Mathlib.Omega.{arith}
-use borrow.Author.Tests.{ltb-true, ltb-false, le-ltb, eqb-true, eqb-false}
+use borrow.Author.Tests.{ltb-true, ltb-false, eqb-true, eqb-false}
 use lib.Dec.{ltb, eqb}
 use lib.ListN.{length, take, drop, getD, length-append, length-drop}
 use lib.Seq.{getD-drop, drop-drop, take-all, take-at, drop-at, length-take-le}
 use Rattle.rules.proofs.Tests.{tests, never, by-test}
 use Rattle.fours.specs.Word.{wordOf}
-use Rattle.trace.specs.Trace.{Said, found, ended, refused, limit, left}
+use Rattle.trace.specs.Trace.{found, ended, refused, left}
 use Rattle.trace_layout.specs.Layout.{Listing, traceOf, restFrom}
 use Rattle.trace_layout.proofs.Rest.{rest-found, rest-ended, rest-refused, everywhere}
 use Rattle.pcap_fields.specs.Fields.{wordIn}
 use Rattle.pcap_fields.specs.declared.Order.{Order}
 use Rattle.pcap_fields.specs.declared.Order.the-variants.{Little, Big}
 use Rattle.pcap_records.specs.Records.{fileHeader, header, magic, linkType, Opening, opens, shut, versionFits, fieldsOf, openOf, storedAt, originalAt, recordAt}
-use Rattle.pcap_records.proofs.Laws.{read-end, header-cut}
+use Rattle.pcap_records.proofs.Laws.{read-end, header-cut, same-record, open-whole}
 use Rattle.pcap_lists.specs.Lists.{judged, recordsIn}
 use Rattle.pcap_lists.proofs.Inside.{found-inside, capture-reading}
 use Rattle.pcap.specs.Captures.{outcome, readIn, readOf}
+use Rattle.captures.specs.Typed.{Octets}
 use Rattle.captures.specs.Turned.{other, fileHeaderTurned, headerTurned, recordsTurned, orderOf, turned}
-use Rattle.captures.proofs.Calls.{Octets}
-
--- what is said of a record hangs on four numbers
-same-record : (o p : Order) (s t : List ℕ) (at : ℕ) → left t at ≡ left s at → left t (at + header) ≡ left s (at + header)
-    → storedAt p t at ≡ storedAt o s at → originalAt p t at ≡ originalAt o s at → recordAt p t at ≡ recordAt o s at
-unfolding recordAt
-same-record o p s t at a b c d =
-    let tree : ℕ → ℕ → ℕ → ℕ → Said =
-    λ l m n k. cond (eqb l 0) ended (cond (ltb l header) (refused 74) (cond (ltb limit n) (refused 75) (cond (not (eqb n k)) (refused 76) (cond (ltb m n) (refused 77) (found (at + header) n (at + header + n)))))) in
-    ap₂ (λ (l m : ℕ). tree l m (storedAt p t at) (originalAt p t at)) a b ∙ ap₂ (λ (n k : ℕ). tree (left s at) (left s (at + header)) n k) c d
 
 same-word : {a b c d a′ b′ c′ d′ : ℕ} → a ≡ a′ → b ≡ b′ → c ≡ c′ → d ≡ d′ → wordOf a b c d ≡ wordOf a′ b′ c′ d′
 same-word {a} {b} {c} {d} {a′} {b′} p q r x = ap₂ (λ (i j : ℕ). wordOf i j c d) p q ∙ ap₂ (λ (i j : ℕ). wordOf a′ b′ i j) r x
@@ -195,12 +186,9 @@ module _ (s : List ℕ) (o : Octets s) (h : fileHeader ≤ length s) where
   by-magic false false e f = refl
 
   open-flipped : openOf t ≡ flipped (openOf s)
-  unfolding openOf
   open-flipped =
-      let whole : fileHeader ≤ length t = omega (arith, same-length) in
-      ap (λ (b : Bool). cond b (shut 70) (cond (eqb (wordIn Little t 0) magic) (fieldsOf Little t) (cond (eqb (wordIn Big t 0) magic) (fieldsOf Big t) (shut 71)))) (le-ltb (length t) fileHeader whole)
-      ∙ by-magic (eqb (wordIn Little s 0) magic) (eqb (wordIn Big s 0) magic) refl refl
-      ∙ sym (ap (λ (b : Bool). flipped (cond b (shut 70) (cond (eqb (wordIn Little s 0) magic) (fieldsOf Little s) (cond (eqb (wordIn Big s 0) magic) (fieldsOf Big s) (shut 71))))) (le-ltb (length s) fileHeader h))
+      open-whole t (omega (arith, same-length)) ∙ by-magic (eqb (wordIn Little s 0) magic) (eqb (wordIn Big s 0) magic) refl refl
+      ∙ sym (ap flipped (open-whole s h))
 
   -- and what the file opens in is the order that it was turned from
   fields-order : (p q : Order) (a b : Bool) → cond a (shut 72) (cond b (shut 73) (opens p)) ≡ opens q → p ≡ q
@@ -214,10 +202,7 @@ module _ (s : List ℕ) (o : Octets s) (h : fileHeader ≤ length s) where
   by-order q false false e = never (cc)
 
   order-of : (q : Order) → openOf s ≡ opens q → orderOf s ≡ q
-  unfolding openOf
-  order-of q e =
-      by-order q (eqb (wordIn Little s 0) magic) (eqb (wordIn Big s 0) magic)
-      (sym (ap (λ (b : Bool). cond b (shut 70) (cond (eqb (wordIn Little s 0) magic) (fieldsOf Little s) (cond (eqb (wordIn Big s 0) magic) (fieldsOf Big s) (shut 71)))) (le-ltb (length s) fileHeader h)) ∙ e)
+  order-of q e = by-order q (eqb (wordIn Little s 0) magic) (eqb (wordIn Big s 0) magic) (sym (open-whole s h) ∙ e)
 
   in-order : (q : Order) → orderOf s ≡ q → recordsIn (other q) t ≡ recordsIn q s
   in-order q e = records-same q s t same-length fileHeader (length s) (omega arith) (ap (λ (p : Order). recordsTurned (length s) p s fileHeader) e)

@@ -1,6 +1,7 @@
 // Captures for the usual viewer: a pcap file from a trace, and back.
 use pcap_fields::Order;
 use pcap_lists::Answer;
+use pcap_records::FILE_HEADER;
 use pcap_records::Opened;
 ghost use mathlib.Core.Path.{_≡_};
 ghost use Prim.Native.Nat.{_+_, _*_, _≤_};
@@ -9,10 +10,8 @@ ghost use Rattle.pcap_lists.specs.Lists.{said};
 ghost use Rattle.pcap_records.specs.Records.{opens};
 ghost use Rattle.pcap.specs.Captures.{Tells, Met, writeOf, readIn, readOf};
 
-// The octets of a capture's header, and how many more a record has in a capture than in a trace.
-const FILE_HEADER: usize = 24;
-
-const MORE: usize = 12;
+// How many octets more a record has in a capture than in a trace.
+const MORE: usize = pcap_records::HEADER - trace::HEADER;
 
 // So many records, which have four octets each in a trace at least, make a capture of more octets than a number has room for.
 const TOO_MANY: usize = 1152921504606846976;

@@ -1,5 +1,6 @@
 // The contents of a trace as the records of a capture, and those of a capture as the records of a trace.
 use pcap_fields::Order;
+use pcap_records::FILE_HEADER;
 use pcap_records::Read;
 use trace::Cursor;
 ghost use mathlib.Core.Path.{_≡_};
@@ -9,13 +10,6 @@ ghost use Rattle.octets.specs.Laid.{over};
 ghost use Rattle.trace_layout.specs.Layout.{traceOf, readAll};
 ghost use Rattle.pcap_headers.specs.Headers.{captureOf};
 ghost use Rattle.pcap_lists.specs.Lists.{recordsIn};
-
-// The octets of a capture's header, and of a record's header in a capture and in a trace.
-const FILE_HEADER: usize = 24;
-
-const CAPTURE_HEADER: usize = 16;
-
-const TRACE_HEADER: usize = 4;
 
 // A capture of the trace's contents, up to its end or to a record that is refused.
 pub fn put_capture(trace: &[u8], out: &mut [u8])
@@ -39,7 +33,7 @@ pub fn put_capture(trace: &[u8], out: &mut [u8])
         let end = next.at;
         pcap_headers::put_capture_record(&trace[start..end], out, at);
         from = end;
-        at += CAPTURE_HEADER + length;
+        at += pcap_records::HEADER + length;
     }
 }
 
@@ -62,6 +56,6 @@ pub fn put_trace(order: Order, capture: &[u8], out: &mut [u8])
         };
         pcap_headers::put_trace_record(&capture[start..next], out, at);
         from = next;
-        at += TRACE_HEADER + length;
+        at += trace::HEADER + length;
     }
 }

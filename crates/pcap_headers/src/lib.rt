@@ -34,11 +34,6 @@ const FILE_HEADER: [u8; 24] = [
     0,
 ];
 
-// The octets of a record's header: in a capture, and in a trace.
-const CAPTURE_HEADER: usize = 16;
-
-const TRACE_HEADER: usize = 4;
-
 // The header of a capture, at the front of the memory lent.
 pub fn put_file_header(out: &mut [u8])
     requires { ⌜ 24 ≤ length (now out) ⌝ }
@@ -79,7 +74,7 @@ pub fn put_capture_record(content: &[u8], out: &mut [u8], at: usize)
     ensures { λ _. ⌜ now (out .exit) ≡ laid (now (out .entry)) at (captureRecord (now (content .entry))) ⌝ }
 {
     octets::copy_into(&capture_header(content.len() as u32), out, at);
-    octets::copy_into(content, out, at + CAPTURE_HEADER)
+    octets::copy_into(content, out, at + pcap_records::HEADER)
 }
 
 // A record of a trace, from place at on: how long the content is, and that it is an mFrame.
@@ -90,5 +85,5 @@ pub fn put_trace_record(content: &[u8], out: &mut [u8], at: usize)
     let n = fours::split(content.len() as u32);
     let header = [n[0], n[1], 1, 0];
     octets::copy_into(&header, out, at);
-    octets::copy_into(content, out, at + TRACE_HEADER)
+    octets::copy_into(content, out, at + trace::HEADER)
 }

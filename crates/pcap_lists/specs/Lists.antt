@@ -33,7 +33,7 @@ valueOf (good n) = n
 valueOf (refused q k) = k
 valueOf (short n) = n
 
--- what stopped the reading behind n records: the end, or the refusal of the next one
+-- what stopped the reading behind n records: the end, or the refusal of the next one; a record that is found never does (`rest-stops`)
 abbrev pub behind : ℕ → trace.Said → Said
 behind n (trace.found place k next) = good n
 behind n trace.ended = good n

@@ -1,13 +1,11 @@
 // Whether a trace or a capture is accepted, record by record, and how many records it has.
 use pcap_fields::Order;
+use pcap_records::FILE_HEADER;
 use pcap_records::Read;
 use trace::Cursor;
 ghost use mathlib.Core.Path.{_≡_};
 ghost use Rattle.trace_layout.specs.Layout.{readAll};
 ghost use Rattle.pcap_lists.specs.Lists.{said, numberOf, valueOf, judged, recordsIn};
-
-// Where the first record of a capture stands.
-const FIRST: usize = 24;
 
 // What a call that is given a trace or a capture answers.
 pub enum Answer {
@@ -82,7 +80,7 @@ pub fn of_capture(order: Order, capture: &[u8]) -> Answer
     ensures { λ r. ⌜ said r ≡ judged (recordsIn order (now (capture .entry))) ⌝ }
 {
     let mut records = 0;
-    let mut at = FIRST;
+    let mut at = FILE_HEADER;
     while at < capture.len() {
         let record = records + 1;
         let read = pcap_records::record_at(order, capture, at);

@@ -6,9 +6,9 @@ ghost use lib.ListN.{length};
 ghost use Rattle.pcap_records.specs.Records.{refusalNumber, opening, said, versionFits, fieldsOf, openOf, recordAt};
 
 // The octets of the file's header, and of a record's.
-const FILE_HEADER: usize = 24;
+pub const FILE_HEADER: usize = 24;
 
-const HEADER: usize = 16;
+pub const HEADER: usize = 16;
 
 const MAGIC: u32 = 0xA1B2C3D4;
 

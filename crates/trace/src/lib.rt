@@ -3,10 +3,10 @@ ghost use mathlib.Core.Path.{_≡_};
 ghost use Rattle.trace.specs.Trace.{front, refusalNumber, said, littleEndian, readAt};
 
 // A record's header: the length of its content and its kind, two octets each.
-const HEADER: usize = 4;
+pub const HEADER: usize = 4;
 
 // The greatest length of a content.
-const LIMIT: usize = 1600;
+pub const LIMIT: usize = 1600;
 
 // The kind of a record whose content is an mFrame as received.
 const KIND: usize = 1;

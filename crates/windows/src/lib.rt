@@ -4,7 +4,7 @@ ghost use Prim.Native.Nat.{_+_, _≤_};
 ghost use lib.ListN.{length};
 
 // The octets of the longest record, one of a capture, with its header: where so many are in the window, or the input has ended, a record of a
-// trace or of a capture reads as in the whole input.
+// trace or of a capture, and a capture's header, read as in the whole input (the theorems of captures, Window).
 pub const LONGEST: usize = 1616;
 
 // The first n octets, or all where there are fewer.
