@@ -7,7 +7,16 @@ import tempfile
 import threading
 from pathlib import Path
 
+import inputs
+
 UNENDED = "the program did not end"
+
+
+def end(process):
+    """Ends a process that leads a session, and all that it began, where it goes on."""
+    if process.returncode is None:
+        os.killpg(process.pid, signal.SIGKILL)
+        process.communicate()
 
 
 class Called:
@@ -29,10 +38,14 @@ class Called:
         return path
 
     def begun(self, *words, redirection="", stdin=subprocess.DEVNULL, **how):
-        """The program, called with these words and going on, its streams redirected by the shell where Python cannot, as by `>&-`."""
+        """The program, called with these words and going on, its streams redirected by the shell where Python cannot, as by `>&-`.
+
+        Whatever is left of it when the test ends is ended too.
+        """
         command = ["sh", "-c", f'exec "$@" {redirection}', "sh", *self.command, *words]
         process = subprocess.Popen(command, cwd=self.folder, stdin=stdin, stdout=subprocess.PIPE, stderr=subprocess.PIPE,
                                    env=self.environment, start_new_session=True, **how)
+        self.addCleanup(end, process)
         if stdin is not subprocess.DEVNULL:
             stdin.close()
         return process
@@ -42,8 +55,7 @@ class Called:
         try:
             output, sentence = process.communicate(timeout=self.patience)
         except subprocess.TimeoutExpired:
-            os.killpg(process.pid, signal.SIGKILL)
-            process.communicate()
+            end(process)
             self.fail(UNENDED)
         self.assertEqual(process.returncode, 1 if sentence else 0)
         return output, sentence
@@ -52,18 +64,23 @@ class Called:
         return self.ended(self.begun(*words, **how))
 
 
-def fed(command, pieces, **how):
-    """What a command writes whose input comes in these pieces, and the most memory of any of its processes in KiB."""
-    process = subprocess.Popen(command, stdin=subprocess.PIPE, stdout=subprocess.PIPE, stderr=subprocess.DEVNULL, **how)
-    output = []
-    reader = threading.Thread(target=lambda: output.append(process.stdout.read()))
-    reader.start()
-    for piece in pieces:
-        process.stdin.write(piece)
-        process.stdin.flush()
-    process.stdin.close()
-    reader.join()
-    process.stdout.close()
-    _, status, usage = os.wait4(process.pid, 0)
-    process.returncode = os.waitstatus_to_exitcode(status)
-    return output[0], usage.ru_maxrss
+def fed(command, pieces, status=0, patience=600, **how):
+    """What a command writes whose input comes in these pieces, and the most memory of any of its processes in KiB; its status must be this one."""
+    with inputs.piped(pieces) as source:
+        process = subprocess.Popen(command, stdin=source, stdout=subprocess.PIPE, stderr=subprocess.DEVNULL, start_new_session=True, **how)
+    limit = threading.Timer(patience, os.killpg, (process.pid, signal.SIGKILL))
+    limit.start()
+    try:
+        with process.stdout:
+            output = process.stdout.read()
+        os.waitid(os.P_PID, process.pid, os.WEXITED | os.WNOWAIT)
+    finally:
+        limit.cancel()
+        limit.join()
+        # Until it is waited for below, the number is its own: nobody else is ended, but whatever is left of it.
+        os.killpg(process.pid, signal.SIGKILL)
+    _, code, usage = os.wait4(process.pid, 0)
+    process.returncode = os.waitstatus_to_exitcode(code)
+    if process.returncode != status:
+        raise AssertionError(UNENDED if process.returncode == -signal.SIGKILL else f"the status is {process.returncode}, not {status}")
+    return output, usage.ru_maxrss

@@ -8,7 +8,6 @@ before it (played_kit.py).
 import os
 import re
 import select
-import shlex
 import shutil
 import signal
 import socket
@@ -19,10 +18,13 @@ import unittest
 from pathlib import Path
 
 import played_kit
+import running
 from capture_octets import capture_of, contents_of
 
 ROOT = Path(__file__).resolve().parents[2]
 TRACES = ROOT / "tests" / "traces"
+# Where the capture of the sample is written.
+CAPTURE = ROOT / "target" / "sample.pcap"
 
 # A line of rt.
 UNCHANGED = "echo 'rt: trace proved (unchanged since it was last proved)'"
@@ -53,13 +55,7 @@ class Commands(unittest.TestCase):
         """The command, going on; whatever is left of it when the test ends is ended too."""
         process = subprocess.Popen(command, cwd=self.folder, stdin=subprocess.DEVNULL, stdout=subprocess.PIPE,
                                    stderr=subprocess.PIPE, start_new_session=True, **how)
-
-        def end():
-            if process.returncode is None:
-                os.killpg(process.pid, signal.SIGKILL)
-                process.communicate()
-
-        self.addCleanup(end)
+        self.addCleanup(running.end, process)
         return process
 
     def next_line(self, stream):
@@ -92,10 +88,15 @@ class Given(Commands):
         folder = ROOT / "crates" / self.program
         return (folder / "stdin").read_bytes(), (folder / "stdout").read_bytes()
 
+    def listed(self, output):
+        """The output is what the program writes of the sample."""
+        self.assertEqual(output, self.sample()[1])
+
     def lists(self, command, **how):
         """The command lists the sample and says nothing."""
         done = self.run_in_folder(command, **how)
-        self.assertEqual((done.returncode, done.stdout, done.stderr), (0, self.sample()[1], b""))
+        self.assertEqual((done.returncode, done.stderr), (0, b""))
+        return self.listed(done.stdout)
 
 
 class List(Given):
@@ -125,23 +126,35 @@ class Capture(Given):
     unread, empty = List.unread, List.empty
     two = "One capture is made at a time, as in: scripts/capture row.trace"
 
-    def sample(self):
-        """The trace that ships with the project, and what is said of its capture."""
-        word = shlex.quote(str(ROOT / "target" / "sample.pcap"))
-        said = f"{word} is written: open it in Wireshark, or list it with: tshark -r {word}\n"
-        return (ROOT / "crates" / "mmlist" / "stdin").read_bytes(), said.encode()
+    def setUp(self):
+        """A capture of the sample that somebody has is put aside, and back when the test is over; no other is left there."""
+        super().setUp()
+        aside = CAPTURE.with_name("sample.pcap.aside")
+        # One that stands aside already is from a test that was killed, and so is what stands in its place.
+        if os.path.lexists(CAPTURE) and not os.path.lexists(aside):
+            CAPTURE.rename(aside)
 
-    def lists(self, command, **how):
-        """The command writes the capture of the sample and says its name alone; that file, which is taken away again."""
-        done = self.run_in_folder(command, **how)
-        self.assertEqual((done.returncode, done.stderr), (0, b""))
-        told = re.fullmatch(rb"(.+) is written: open it in Wireshark, or list it with: tshark -r (.+)\n", done.stdout)
-        self.assertTrue(told, done.stdout)
+        def put_back():
+            CAPTURE.unlink(missing_ok=True)
+            if os.path.lexists(aside):
+                aside.rename(CAPTURE)
+
+        self.addCleanup(put_back)
+
+    def sample(self):
+        """The trace that ships with the project, and its capture."""
+        octets = (ROOT / "crates" / "mmlist" / "stdin").read_bytes()
+        return octets, capture_of(contents_of(octets))
+
+    def listed(self, output):
+        """The output says the name of the sample's capture alone; that file, which is taken away again."""
+        told = re.fullmatch(rb"(.+) is written: open it in Wireshark, or list it with: tshark -r (.+)\n", output)
+        self.assertTrue(told, output)
         # A shell takes the name out of the command that is told, as it would where that is copied.
         words = [self.run_in_folder(["bash", "-c", b'printf "%s" ' + word]).stdout for word in told.groups()]
         self.assertEqual(words[0], words[1])
         capture = self.folder / os.fsdecode(words[0])
-        self.assertEqual(capture.read_bytes(), capture_of(contents_of(self.sample()[0])))
+        self.assertEqual(capture.read_bytes(), self.sample()[1])
         capture.unlink()
         return capture
 
@@ -231,7 +244,7 @@ class NamesOfCaptures(Names, Capture):
     def test_the_sample_stands_in_target(self):
         for command in self.both():
             with self.subTest(command=command):
-                self.assertEqual(self.lists(command), ROOT / "target" / "sample.pcap")
+                self.assertEqual(self.lists(command), CAPTURE)
 
     def test_make_in_another_folder_takes_a_name_there(self):
         (self.folder / "sub").mkdir()
@@ -356,19 +369,22 @@ class Proving:
         """The script, begun, with this as rt."""
         return self.begun(self.script(), env=played_kit.for_real_programs(self.folder, script))
 
-    def ends(self, process, status, listing, said):
-        self.assertEqual((*process.communicate(timeout=60), process.returncode), (listing, said, status))
+    def ends(self, process, said):
+        """The script has listed the sample, and said this."""
+        output, sentences = process.communicate(timeout=60)
+        self.assertEqual((process.returncode, sentences), (0, said))
+        self.listed(output)
 
     def test_nothing_to_prove_is_not_said(self):
-        self.ends(self.listing_with(f"{UNCHANGED}; echo 'rt: ok, 1 crates proved'"), 0, self.sample()[1], b"")
+        self.ends(self.listing_with(f"{UNCHANGED}; echo 'rt: ok, 1 crates proved'"), b"")
 
     def test_it_is_the_program_that_is_proved(self):
         # The stand-in finds a crate by its name where it is called, as rt would.
-        self.ends(self.listing_with(f'[ "$*" = "check {self.program}" ] && [ -d "crates/$2" ]'), 0, self.sample()[1], b"")
+        self.ends(self.listing_with(f'[ "$*" = "check {self.program}" ] && [ -d "crates/$2" ]'), b"")
 
     def test_what_is_proved_is_said(self):
         self.ends(self.listing_with(f"{UNCHANGED}; echo logic=proved; {self.tell_proved}; echo 'rt: ok, 2 crates proved'"),
-                  0, self.sample()[1], self.proving + self.proved)
+                  self.proving + self.proved)
 
     def test_it_is_said_while_a_crate_is_proved(self):
         # The stand-in does not go on before the sentence was read.
@@ -376,13 +392,14 @@ class Proving:
         process = self.listing_with(f"{UNCHANGED}; read -r _ <'{self.folder}/go'; {self.tell_proved}")
         self.assertEqual(self.next_line(process.stderr), self.proving)
         (self.folder / "go").write_text("\n")
-        self.ends(process, 0, self.sample()[1], self.proved)
+        self.ends(process, self.proved)
 
     def test_a_proof_that_fails(self):
         failed = f"rt: {self.program} NOT PROVED (exit 1, 3 s)\n".encode()
         unbuilt = f"{self.program} could not be proved, so it was not built.\n".encode()
-        self.ends(self.listing_with(f"echo 'error: no'; printf '{failed.decode()}'; exit 1"),
-                  1, b"", self.proving + failed + b"error: no\n" + failed + unbuilt)
+        process = self.listing_with(f"echo 'error: no'; printf '{failed.decode()}'; exit 1")
+        self.assertEqual((*process.communicate(timeout=60), process.returncode),
+                         (b"", self.proving + failed + b"error: no\n" + failed + unbuilt, 1))
 
     def test_no_rt(self):
         for tool in ("bash", "dirname", "readlink"):

@@ -17,13 +17,13 @@ from inputs import failing_behind
 ROOT = Path(__file__).resolve().parents[2]
 RUN = str(ROOT / "scripts" / "run-program")
 TRACES = ROOT / "tests" / "traces"
-QUESTIONS = ("test_ground", "test_send", "test_receive", "test_stream", "test_verify", "test_link", "test_gates")
+QUESTIONS = ("test_ground", "test_send", "test_receive", "test_stream", "test_verify", "test_link", "test_gates", "test_captures")
 LISTING = ("mmlist", "mmholds", *QUESTIONS)
 READING = (*LISTING, "mmpcap")
 WRITING = (*LISTING, "test_waits")
 
-# Of each program that runs questions: some that are cut off, unknown, or ask for more than any has: 2,049 octets, or
-# 301 entries or events.
+# Of each program that runs questions: some that are cut off, unknown, or ask for more than any has: 2,049 octets, those on
+# captures 8,193, or 301 entries or events.
 BROKEN = {
     "test_ground": ("00", "07", "ff", "01", "02", "03", "04" + "00" * 25, "05 00000000 0100", "06 0100 0100 0000 00",
                        "01 00000000 0108" + "00" * 2049, "06 0108 0000 0000" + "00" * 2049),
@@ -37,6 +37,8 @@ BROKEN = {
     "test_gates": ("00", "04", "ff", "01 0000 0000", "01 0100 0000 00", "02 0100 0000 00" + "00" * 11, "03 0000",
                       "01 0000 2d01 00", "02 0000 0108 00", "03 0000 2d01 00", "01 0108 0000 00" + "00" * 2049,
                       "02 2d01 0000 00" + "00" * 3612, "03 0108 0000 00" + "00" * 2049),
+    "test_captures": ("00", "03", "ff", "01 0000 0000", "02 0000 0000", "01 0100 0000 00", "02 0200 0000 00 00", "01 0000 0120 00",
+                         "02 0000 0120 00", "01 0120 0000 00" + "00" * 8193, "02 0120 0000 00" + "00" * 8193),
 }
 
 

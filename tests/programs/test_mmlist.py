@@ -1,8 +1,8 @@
 """mmlist as a program: every stored trace, however it comes.
 
 The program must be built (rt check mmlist). rt itself holds to the reference what mmlist lists for the sample, and test_example
-for document 01's own example; here mmlist lists the traces of tests/traces, is fed by pipes in pieces, and with more than memory
-would hold. test_failures.py has inputs and outputs that fail.
+for document 01's own example; here mmlist lists the traces of tests/traces, is fed by pipes in pieces, and with 100 million octets,
+for which its memory must not grow. test_failures.py has inputs and outputs that fail.
 """
 
 import unittest
@@ -26,9 +26,9 @@ def stored(name):
     return (TRACES / f"{name}.trace").read_bytes(), (TRACES / f"{name}.listing").read_bytes()
 
 
-def fed(pieces):
+def fed(pieces, **how):
     """The listing of a trace that comes in these pieces, and the most memory of any of its processes in KiB."""
-    return running.fed(COMMAND, pieces)
+    return running.fed(COMMAND, pieces, **how)
 
 
 class Stored(unittest.TestCase):
@@ -38,7 +38,7 @@ class Stored(unittest.TestCase):
         for name in names:
             with self.subTest(name=name):
                 trace, listing = stored(name)
-                self.assertEqual(fed([trace])[0], listing)
+                self.assertEqual(fed([trace], status=1 if name.startswith("refused") else 0)[0], listing)
 
 
 class Pieces(unittest.TestCase):

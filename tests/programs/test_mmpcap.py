@@ -5,6 +5,7 @@ captures of tests/captures and refused traces give; capture_octets.py lays the o
 for any program, test_commands.py the command around mmpcap.
 """
 
+import contextlib
 import functools
 import itertools
 import os
@@ -16,7 +17,6 @@ import stat
 import struct
 import subprocess
 import threading
-import time
 import unittest
 from pathlib import Path
 from typing import NamedTuple
@@ -71,6 +71,17 @@ def state(path):
     return kind, path.read_bytes() if stat.S_ISREG(kind) else None
 
 
+@contextlib.contextmanager
+def with_mode(path, mode):
+    """Meanwhile the path has this mode, with which even a test may be unable to look at it."""
+    usual = stat.S_IMODE(path.stat().st_mode)
+    path.chmod(mode)
+    try:
+        yield
+    finally:
+        path.chmod(usual)
+
+
 def both_ways(test):
     """The test each way, in a folder of its own that has the file `taken`."""
     @functools.wraps(test)
@@ -100,10 +111,12 @@ class Mmpcap(running.Called, unittest.TestCase):
         self.assertTrue(path.read_bytes() == (way.result if result is None else result), f"{made!r} has other octets")
         path.unlink()
 
-    def refuses(self, way, text, taken="taken", made="made", **how):
-        """mmpcap says the sentence, and every file is as it was before."""
+    def refuses(self, way, text, taken="taken", made="made", meanwhile=contextlib.nullcontext(), **how):
+        """mmpcap says the sentence, and every file is as it was before. While it goes on, something may be as it is not for the test."""
         before = self.all_files()
-        self.assertEqual(self.said(way.word, taken, made, **how), (b"", f"mmpcap: {way.sentence(text)}\n".encode()))
+        with meanwhile:
+            said = self.said(way.word, taken, made, **how)
+        self.assertEqual(said, (b"", f"mmpcap: {way.sentence(text)}\n".encode()))
         self.assertEqual(self.all_files(), before)
 
 
@@ -170,6 +183,14 @@ class Stored(Mmpcap):
                 if not said:
                     self.assertEqual(made.read_bytes(), (CAPTURES / f"{name}.trace").read_bytes())
                     made.unlink()
+
+    def test_good_traces(self):
+        # What is read from another maker's capture is written as ours.
+        names = [name for name in self.stored("trace") if name in self.stored("pcap") and not name.startswith("other_")]
+        self.assertEqual(names, ["empty", "empty_record", "lengths", "like_headers", "long", "row"])
+        for name in names:
+            with self.subTest(name=name):
+                self.makes(WRITE, str(CAPTURES / f"{name}.trace"), "row.pcap", (CAPTURES / f"{name}.pcap").read_bytes())
 
     def test_refused_traces(self):
         for name in sorted(set(self.stored("trace")) - set(self.stored("pcap"))):
@@ -348,6 +369,8 @@ class Names(Mmpcap):
     @both_ways
     def test_a_dash_is_the_name_of_what_is_made(self, way):
         self.makes(way, "taken", "-")
+        # Standard input has no name, so that this is not one name twice.
+        self.makes(way, "-", "-", stdin=inputs.piped([way.octets]))
 
     @both_ways
     def test_a_name_goes_before_standard_input(self, way):
@@ -510,10 +533,14 @@ class Modes(Mmpcap):
     def setUp(self):
         super().setUp()
         if os.geteuid() == 0:
-            bound = ["setpriv", "--bounding-set", "-dac_override,-dac_read_search"]
-            if not shutil.which("setpriv") or subprocess.run([*bound, "true"], check=False, stderr=subprocess.DEVNULL).returncode:
-                self.skipTest("root is not bound by the modes of files")
-            self.command = [*bound, *COMMAND]
+            self.command = ["setpriv", "--bounding-set", "-dac_override,-dac_read_search", *COMMAND]
+            # In a project of somebody else's, root that is bound may not reach the program.
+            if not shutil.which("setpriv") or self.words_on_none() != f"mmpcap: {USE}\n".encode():
+                self.skipTest("root is not bound by the modes of files, or cannot reach mmpcap where it is")
+
+    def words_on_none(self):
+        """What the command says that is given no words."""
+        return subprocess.run(self.command, cwd=self.folder, capture_output=True, timeout=self.patience, check=False).stderr
 
     @both_ways
     def test_a_file_that_may_not_be_written(self, way):
@@ -521,23 +548,18 @@ class Modes(Mmpcap):
         self.refuses(way, OCCUPIED)
 
     @both_ways
-    def test_a_folder_that_may_not_be_written(self, way):
+    def test_a_folder_that_may_not_be_written_or_searched(self, way):
         (self.folder / "sub").mkdir()
         self.file(b"old", "sub/old")
-        (self.folder / "sub").chmod(0o555)
-        self.addCleanup((self.folder / "sub").chmod, 0o755)
-        for made in ("sub/made", "sub/old"):
-            with self.subTest(made=made):
-                self.refuses(way, NOT_BESIDE, made=made)
+        # Not to be written, and not to be searched: then nobody can tell what stands at a name there.
+        for mode, made in itertools.product((0o555, 0o644), ("sub/made", "sub/old")):
+            with self.subTest(mode=oct(mode), made=made):
+                self.refuses(way, NOT_BESIDE, made=made, meanwhile=with_mode(self.folder / "sub", mode))
 
     @both_ways
     def test_a_file_that_may_not_be_read(self, way):
-        self.file(WRITE.octets, "closed")
-        before = self.all_files()
-        (self.folder / "closed").chmod(0o200)
-        said = self.said(way.word, "closed", "made")
-        (self.folder / "closed").chmod(before[Path("closed")][0] & 0o777)
-        self.assertEqual((said, self.all_files()), ((b"", f"mmpcap: {way.sentence(UNOPENED)}\n".encode()), before))
+        closed = self.file(WRITE.octets, "closed")
+        self.refuses(way, UNOPENED, taken="closed", meanwhile=with_mode(closed, 0o200))
 
 
 class Beside(Mmpcap):
@@ -588,48 +610,49 @@ class Going(Mmpcap):
     """mmpcap while it waits for more: then the file beside is there, and the target is as it was."""
 
     def waiting(self, way):
-        """mmpcap, which has been given far more than it holds at once, and the pipe by which it gets the rest."""
-        contents = list(contents_of((TRACES / "long.trace").read_bytes()))
-        reader, writer = os.pipe()
-        process = self.begun(way.word, "-", "made", stdin=open(reader, "rb", buffering=0))
-        pipe = open(writer, "wb")
-        self.addCleanup(pipe.close)
-        pipe.write(trace_of(contents) if way is WRITE else capture_of(contents))
-        pipe.flush()
-        end = time.monotonic() + self.patience
-        while not (self.folder / "made.part0").exists():
-            self.assertLess(time.monotonic(), end, "no file was made beside the target")
-            time.sleep(0.01)
-        return process, pipe
+        """mmpcap, which has been given far more than it holds at once, and the event upon which its input ends."""
+        octets = (TRACES / "long.trace").read_bytes()
+        given, rest = threading.Event(), threading.Event()
+        self.addCleanup(rest.set)
 
-    def fails(self, way, process, pipe, left):
+        def pieces():
+            yield octets if way is WRITE else capture_of(contents_of(octets))
+            given.set()
+            rest.wait()
+
+        process = self.begun(way.word, "-", "made", stdin=inputs.piped(pieces()))
+        self.assertTrue(given.wait(self.patience), "mmpcap does not read on")
+        self.assertTrue((self.folder / "made.part0").exists(), "no file was made beside the target")
+        return process, rest
+
+    def fails(self, way, process, rest, left):
         """With its input at an end mmpcap says that its file has no name, and leaves these names."""
-        pipe.close()
+        rest.set()
         self.assertEqual(self.ended(process), (b"", f"mmpcap: {way.sentence(UNNAMED)}\n".encode()))
         self.assertEqual(sorted(path.name for path in self.folder.iterdir()), left)
 
     @both_ways
     def test_the_target_is_as_it_was_until_the_end(self, way):
         self.file(b"old", "made")
-        process, pipe = self.waiting(way)
+        process, rest = self.waiting(way)
         self.assertEqual((self.folder / "made").read_bytes(), b"old")
-        pipe.close()
+        rest.set()
         self.assertEqual(self.ended(process), (b"", b""))
         self.assertGreater((self.folder / "made").stat().st_size, 1_000_000)
         self.assertEqual(sorted(path.name for path in self.folder.iterdir()), ["made", "taken"])
 
     @both_ways
     def test_a_folder_takes_the_name_meanwhile(self, way):
-        process, pipe = self.waiting(way)
+        process, rest = self.waiting(way)
         (self.folder / "made").mkdir()
-        self.fails(way, process, pipe, ["made", "taken"])
+        self.fails(way, process, rest, ["made", "taken"])
         (self.folder / "made").rmdir()
 
     @both_ways
     def test_the_file_beside_goes_away_meanwhile(self, way):
-        process, pipe = self.waiting(way)
+        process, rest = self.waiting(way)
         (self.folder / "made.part0").unlink()
-        self.fails(way, process, pipe, ["taken"])
+        self.fails(way, process, rest, ["taken"])
 
 
 class Full(Mmpcap):

@@ -16,6 +16,9 @@ from chance import Chance
 SEED = 8074
 LONG_RECORDS = 3_000
 
+# What rt ci has mmpcap read: the capture of the row.
+SAMPLE = "crates/mmpcap/data/sample.pcap"
+
 # A capture of another maker: an hour east of Greenwich, microseconds, and the longest snap length that is usual.
 ANOTHER_MAKER = {"zone": 3600, "accuracy": 6, "snap": 262_144}
 ALL_BITS = {"zone": 2**32 - 1, "accuracy": 2**32 - 1, "snap": 2**32 - 1}
@@ -250,7 +253,8 @@ def files():
         made += converted("write", name, octets, "trace", "pcap")
     for name, octets in {**other_captures(), **refused_captures()}.items():
         made += converted("read", name, octets, "pcap", "trace")
-    return made
+    sample, _ = mmpcap.made("write", traces.row())
+    return [*made, stored.StoredFile(SAMPLE, sample, is_text=False)]
 
 
 if __name__ == "__main__":

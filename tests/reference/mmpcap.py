@@ -76,7 +76,8 @@ def run(words):
         sys.exit(f"mmpcap: {USAGE}")
     word, source, target = words
     of_source, of_target = WORDS[word]
-    if source == target:
+    # Standard input has no name: the second - is that of a file.
+    if source == target and source != "-":
         sys.exit("mmpcap: the trace and the capture have the same name.")
     octets, said = made(word, taken(source, of_source))
     if said:

@@ -51,9 +51,11 @@ GOOD = {
 
 
 def stored_by_name():
-    """Of each name the stored files, by their endings."""
+    """Of each name the stored files of tests/captures, by their endings."""
     found = {}
     for file in captures_files.files():
+        if file.path == captures_files.SAMPLE:
+            continue
         folder, _, name = file.path.rpartition("/")
         assert folder == "tests/captures"
         stem, _, ending = name.partition(".")
@@ -89,6 +91,10 @@ class Files(unittest.TestCase):
                 written, _ = mmpcap.made("write", octets)
                 self.assertEqual(written == capture, not name.startswith("other_"))
                 self.assertEqual(mmpcap.made("read", written), (octets, ""))
+
+    def test_the_sample_is_the_row(self):
+        [sample] = [file for file in captures_files.files() if file.path == "crates/mmpcap/data/sample.pcap"]
+        self.assertEqual((sample.content, sample.is_text), (self.files["row"]["pcap"], False))
 
     def test_octets_by_hand(self):
         self.assertEqual(self.files["empty_record"]["pcap"].hex(" ", -4),

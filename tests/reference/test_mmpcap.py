@@ -80,6 +80,11 @@ class Command(unittest.TestCase):
         self.assertEqual(self.end_of("write", "-", "new.pcap", stdin=TRACE), (0, b""))
         self.assertEqual(self.content("new.pcap"), CAPTURE)
 
+    def test_standard_input_and_a_file_of_its_sign(self):
+        self.assertEqual(self.end_of("write", "-", "-", stdin=TRACE), (0, b""))
+        self.assertEqual(self.end_of("read", "./-", "new.trace"), (0, b""))
+        self.assertEqual((self.content("-"), self.content("new.trace")), (CAPTURE, TRACE))
+
     def test_what_is_refused_makes_nothing(self):
         said = b"mmpcap: record 3 is cut off: the trace ends inside its header (50).\n"
         for target in ("new.pcap", "row.pcap"):
