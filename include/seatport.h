@@ -11,9 +11,9 @@
  * | Fragments, V and R are understood only by ports built from this code. Their check octets, the mCRC, are those of     |
  * | document 01, and other makers' boxes use others (docs/DECISIONS.md, 1). Such a box drops our V and R and each frame  |
  * | that we cut; we answer theirs with 21, 25 and 22. The usual viewer (Wireshark) calls the first fragment of a frame   |
- * | corrupted and the mCRC of the others bad, and does not put the frame together. Express frames, and preemptable ones  |
- * | that nobody cuts, pass both ways. A link to such a box is never verified: a caller that sets active only once the    |
- * | link is verified sends it no fragment.                                                                               |
+ * | corrupted and the mCRC of those between the first and the last, and of V and R, bad, and does not put the frame      |
+ * | together. Express frames, and preemptable ones that nobody cuts, pass both ways. A link to such a box is never       |
+ * | verified: a caller that sets active only once the link is verified sends it no fragment.                             |
  * +----------------------------------------------------------------------------------------------------------------------+
  *
  * Link with libseatport.a. `rt staticlib seatport` makes it for x86-64, `make firmware` for a Cortex-M3 or another
