@@ -100,7 +100,7 @@ class Shows(Captures):
             ("[Corrupted fragment: SMD-S2]", ALONE, delimiter(start, "S2"), None, wrong("mCRC", start, published(crc.mcrc(body))))])
 
     def test_document_01s_fragments_are_not_put_together(self):
-        """The start is corrupted, the mCRC of the others bad; the last has the FCS, which is correct, and called an mCRC."""
+        """The start is corrupted, the mCRC of those between bad; the last has the FCS, which is correct, and called an mCRC."""
         for count in COUNTS:
             start, *between, last = parts = cut(count)
             records = self.shown(parts)
