@@ -1,6 +1,6 @@
 -- `crc::rest` meets its contract. The invariant: what is left, from the register now, makes the register asked for.
 use mathlib.Core.Path.{sym, ap, ◌∙◌}
-use Prim.Native.Nat.{ℕ, ◌-◌, ◌+◌}
+use Prim.Native.Nat.{ℕ, ◌+◌}
 use native.Mathlib.Omega.{arith}
 use lib.ListN.{drop, get_or}
 use Rattle.crc.specs.Crc.{register_over}

@@ -1,0 +1,45 @@
+-- `delimiters::distance` meets its contract. The invariant: the least so far and that of the codes left make the distance. What it stops at
+-- early is the distance by itself.
+use mathlib.Core.Path.{◌≡◌, ap}
+use mathlib.Core.List.{List, map}
+use Prim.Native.Nat.{ℕ, ◌+◌, ◌-◌, ◌≤◌, ◌<◌, min}
+use native.Mathlib.Numerals.{add-one}
+use native.Mathlib.Omega.{arith}
+use lib.ListN.{get_or, drop_of_length-le}
+use lib.Seq.{drop-cons}
+use Rattle.delimiters.specs.Delimiters.{eleven, differing, least_of, distance_of}
+use Rattle.delimiters.proofs.Bits.{least_eight}
+use Rattle.delimiters.proofs.Unbeaten.{unbeaten}
+use Rattle.delimiters.proofs.distance.Invariants.{left}
+use Rattle.delimiters.proofs.distance.Goals as goal
+
+turn : (x i : ℕ) → i < 11 → left x i ≡ min (differing x (get_or eleven i 0)) (left x (i + 1))
+unfolding least_of
+turn x i h = rw (add-one, drop-cons eleven i 0 h)
+
+at_end : (x i : ℕ) → 11 ≤ i → left x i ≡ 8
+unfolding least_of
+at_end x i h = ap (λ (ds : List ℕ). least_of (map (differing x) ds)) (drop_of_length-le eleven h)
+
+pub loop-i-init : goal.loop-i-init
+unfolding distance_of
+loop-i-init c = (omega arith, (omega arith, omega (arith, least_eight (map (differing c.args.octet) eleven))))
+
+pub returns-then-bits-le2 : goal.returns-then-bits-le2
+returns-then-bits-le2 c =
+    let i = c.loop-i.i in
+    let few : differing c.args.octet (get_or eleven i 0) ≤ 2 = omega (arith, c.if-bits-le2.true) in
+    unbeaten c.args.octet i c.ranges.octet.fits c.loop-i-test.true few
+
+pub loop-i-preserved : goal.loop-i-preserved
+loop-i-preserved c =
+    let l = c.loop-i in
+    let t = turn c.args.octet l.i c.loop-i-test.true in
+    let e = c.least-best.ensures in
+    (omega arith, (omega arith, omega arith))
+
+pub returns : goal.returns
+returns c =
+    let l = c.loop-i in
+    let e = at_end c.args.octet l.i c.loop-i-test.false in
+    omega arith

@@ -1,0 +1,18 @@
+-- `delimiters::distance` meets its contract. The invariant: the least so far and that of the codes left make the distance. What it stops at
+-- early is the distance by itself.
+use mathlib.Core.Path.{◌≡◌}
+use mathlib.Core.List.{map}
+use Prim.Native.Nat.{ℕ, ◌-◌, ◌≤◌, min}
+use lib.ListN.{drop}
+use Rattle.delimiters.specs.Delimiters.{eleven, differing, least_of, distance_of}
+use Rattle.delimiters.proofs.distance.Given as goal
+
+-- the least number of bits by which x differs from the codes from place i on
+abbrev pub left : ℕ → ℕ → ℕ
+left x i = least_of (map (differing x) (drop i eleven))
+
+abbrev pub invariant-loop-i : goal.invariant-loop-i
+invariant-loop-i l = (l.i ≤ 11) × ((l.best ≤ 8) × (min l.best (left l.octet l.i) ≡ distance_of l.octet))
+
+abbrev pub decreases-loop-i : goal.decreases-loop-i
+decreases-loop-i l = 11 - l.i
