@@ -5,7 +5,7 @@ ghost use Rattle.std.specs.Prelude.{◌≡◌};
 ghost use Rattle.counters.specs.Counters.{erred, strayed, joined, completed};
 
 // In document 01's order: assembly errors, delimiter errors, frames assembled, fragments.
-#[derive(Drop)]
+#[derive(Clone, Copy)]
 pub struct Counters {
     pub errors: u32,
     pub delimiters: u32,
