@@ -15,7 +15,7 @@ use receiver_answers::{Answer, Drop};
 use receiver_record::Record;
 
 // Test 22: the assembly that a continuation goes on with.
-#[derive(Drop)]
+#[derive(Clone, Copy)]
 enum Assembly {
     Open(FrameCount, FragmentCount, usize, u32),
     Closed,
@@ -33,7 +33,7 @@ fn assembly_of(record: Record) -> Assembly
 }
 
 // Test 23: each count against its like.
-#[derive(Drop)]
+#[derive(Clone, Copy)]
 enum Counts {
     Expected,
     Other,
@@ -52,7 +52,7 @@ fn counts_of(frame: FrameCount, fragment: FragmentCount, f: FrameCount, g: Fragm
 }
 
 // Test 24: the octets kept and the data, so many in all. Neither side of the comparison can wrap.
-#[derive(Drop)]
+#[derive(Clone, Copy)]
 enum Room {
     Enough(usize),
     Over,
@@ -75,14 +75,14 @@ fn room_for(kept: usize, octets: usize) -> Room
 }
 
 // Test 25: the last four octets, and what good ones say of the rest of the frame.
-#[derive(Drop)]
+#[derive(Clone, Copy)]
 enum Check {
     Good(Rest),
     Damaged,
 }
 
 // None is left, or more is to come from this register on.
-#[derive(Drop)]
+#[derive(Clone, Copy)]
 enum Rest {
     Done,
     More(u32),

@@ -35,7 +35,7 @@ pub fn distance(octet: u8) -> u32
 }
 
 // What an octet says as a delimiter.
-#[derive(Drop)]
+#[derive(Clone, Copy)]
 pub enum Delimiter {
     Express,
     Start(FrameCount),
@@ -66,7 +66,7 @@ pub fn delimiter_of(octet: u8) -> Delimiter
 }
 
 // What an octet says as a fragment code.
-#[derive(Drop)]
+#[derive(Clone, Copy)]
 pub enum Fragment {
     Known(FragmentCount),
     Unknown,

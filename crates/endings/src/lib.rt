@@ -5,7 +5,7 @@ ghost use Rattle.std.specs.Prelude.{◌≡◌};
 ghost use Rattle.endings.specs.Judge.{ending_of};
 
 // What the last four octets say of a frame.
-#[derive(Drop)]
+#[derive(Clone, Copy)]
 pub enum Ending {
     // It ends here, after so many data octets more.
     Done(usize),

@@ -33,7 +33,7 @@ fn delivers_express(kind: Kind, octets: &[u8]) -> bool
 }
 
 // A part of an mFrame: it starts at this place and has this many octets.
-#[derive(Drop)]
+#[derive(Clone, Copy)]
 pub struct Part {
     pub start: usize,
     pub length: usize,

@@ -6,7 +6,7 @@ ghost use Rattle.faults.specs.Faults.{fault_number, fault_detail};
 
 // Why an mFrame's head is refused: 12 to 15 and 17 (16, a delimiter out of place, is no longer given: document 02, (vi)). An unknown delimiter has
 // the least number of bits by which it differs from any of the eleven.
-#[derive(Drop)]
+#[derive(Clone, Copy)]
 pub enum Fault {
     Short,
     Long,

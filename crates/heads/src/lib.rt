@@ -8,7 +8,7 @@ use mframe::Kind;
 pub use read::{head_of, is_known};
 
 // What the head of an mFrame says: its kind and the place where the data begin, or why it is refused.
-#[derive(Drop)]
+#[derive(Clone, Copy)]
 pub enum Head {
     Known(Kind, usize),
     Refused(Fault),

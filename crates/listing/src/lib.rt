@@ -7,7 +7,7 @@ ghost use Rattle.listing.specs.Lists.{Lists};
 use receiver_record::Record;
 
 // What a record of the trace makes: the receiving record after it, and the place behind its line.
-#[derive(Drop)]
+#[derive(Clone, Copy)]
 pub struct Listed {
     pub after: Record,
     pub next: usize,

@@ -12,7 +12,7 @@ use receiver_answers::{Answer, Drop, Refusal};
 use receiver_record::Record;
 
 // An answer and the record to keep. Where nothing changes, that is the record as it was.
-#[derive(Drop)]
+#[derive(Clone, Copy)]
 pub struct Received {
     pub answer: Answer,
     pub after: Record,

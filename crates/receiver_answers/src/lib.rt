@@ -7,7 +7,7 @@ ghost use Rattle.receiver_answers.specs.Answers.{refusal_number, refusal_detail,
 use faults::Fault;
 
 // Why an mFrame is refused: 10, 11, and by its head 12 to 15 and 17.
-#[derive(Drop)]
+#[derive(Clone, Copy)]
 pub enum Refusal {
     Buffer,
     Record,
@@ -15,7 +15,7 @@ pub enum Refusal {
 }
 
 // Why an mFrame is dropped: 20 to 25.
-#[derive(Drop)]
+#[derive(Clone, Copy)]
 pub enum Drop {
     Express,
     Heard,
@@ -26,7 +26,7 @@ pub enum Drop {
 }
 
 // The numbered answers: 0 and 1 with the body's length, 2 with the octets kept, 3, 4, 10 to 15, 17, 20 to 25.
-#[derive(Drop)]
+#[derive(Clone, Copy)]
 pub enum Answer {
     Express(usize),
     Delivered(usize),

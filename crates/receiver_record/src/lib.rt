@@ -9,7 +9,7 @@ use counters::Counters;
 use mframe::{BODY_LEAST, BODY_MOST};
 
 // What the caller keeps between calls. The running CRC is the register before the complement.
-#[derive(Drop)]
+#[derive(Clone, Copy)]
 pub struct Record {
     pub assembling: bool,
     pub frame: FrameCount,

@@ -15,7 +15,7 @@ use receiver_record::Record;
 pub const MOST: u32 = 1531;
 
 // What the receiver is given.
-#[derive(Drop)]
+#[derive(Clone, Copy)]
 pub enum Given {
     Octet(u8),
     End,
@@ -23,21 +23,21 @@ pub enum Given {
 
 // What the caller keeps between calls, beside the area: how many octets at its front came since the last end, and whether there were more. The
 // count is a u32, since a machine of 32 bits has it in one register.
-#[derive(Drop)]
+#[derive(Clone, Copy)]
 pub struct State {
     pub count: u32,
     pub more: bool,
 }
 
 // Why a call is refused before all else: 18 and 19.
-#[derive(Drop)]
+#[derive(Clone, Copy)]
 pub enum Refusal {
     Area,
     State,
 }
 
 // What a call answers: that it waits, a refusal of its own, or what the first receiver answers.
-#[derive(Drop)]
+#[derive(Clone, Copy)]
 pub enum Reply {
     Waits,
     Refused(Refusal),
@@ -45,7 +45,7 @@ pub enum Reply {
 }
 
 // The reply, and what is to be kept: the state, and the first receiver's record.
-#[derive(Drop)]
+#[derive(Clone, Copy)]
 pub struct Streamed {
     pub reply: Reply,
     pub state: State,
