@@ -9,7 +9,7 @@ use verify_answers::{Refusal, Stepped, refused, taken};
 use verify_record::{Phase, Record};
 use verify_trying::{enable, hear, tick};
 
-#[derive(Drop)]
+#[derive(Clone, Copy)]
 pub enum Event {
     // With the milliseconds that each attempt is to wait for an R.
     Enable(u32),

@@ -7,7 +7,7 @@ ghost use Rattle.verify_answers.specs.Answers.{number, takes, refuses, told};
 use verify_record::Record;
 
 // Why an event is refused: the record is outside its ranges (40), or the wait of an enable is not 1 to 128 (41).
-#[derive(Drop)]
+#[derive(Clone, Copy)]
 pub enum Refusal {
     Record,
     Wait,
@@ -24,7 +24,7 @@ impl Refusal {
     }
 }
 
-#[derive(Drop)]
+#[derive(Clone, Copy)]
 pub enum Answer {
     // Done, and whether a V is ordered.
     Taken(bool),
@@ -32,7 +32,7 @@ pub enum Answer {
 }
 
 // The answer to an event, and the record after it.
-#[derive(Drop)]
+#[derive(Clone, Copy)]
 pub struct Stepped {
     pub answer: Answer,
     pub after: Record,

@@ -21,7 +21,7 @@ pub fn is_wait(n: u32) -> bool
     n <= LONGEST
 }
 
-#[derive(Drop)]
+#[derive(Clone, Copy)]
 pub enum Phase {
     Off,
     Trying,
@@ -31,7 +31,7 @@ pub enum Phase {
 
 // The phase; in trying the attempt and the milliseconds that it has left, else 0 and 0; whether a response is owed; the milliseconds that each
 // attempt waits.
-#[derive(Drop)]
+#[derive(Clone, Copy)]
 pub struct Record {
     pub phase: Phase,
     pub attempt: u8,
