@@ -20,7 +20,7 @@ const GREATEST: u8 = 2;
 const OCTET: u32 = 255;
 
 // Why a list is refused: 60 to 63.
-#[derive(Drop)]
+#[derive(Clone, Copy)]
 pub enum Refusal {
     // The header or the value is cut.
     Cut,
@@ -46,7 +46,7 @@ impl Refusal {
 }
 
 // An entry judged by itself.
-#[derive(Drop)]
+#[derive(Clone, Copy)]
 pub enum Judged {
     Passes,
     Refused(Refusal),

@@ -10,7 +10,7 @@ use gate_entries::{Judged, Refusal, SIZE};
 const MOST: u32 = 256;
 
 // What a call that is given a list answers.
-#[derive(Drop)]
+#[derive(Clone, Copy)]
 pub enum Answer {
     // The list is good: so many entries; or so many entries, octets or events were written.
     Good(u32),

@@ -11,11 +11,11 @@ use Rattle.gate_entries.proofs.fits.Goals as goal
 
 pub returns-then-entry-wide : goal.returns-then-entry-wide
 returns-then-entry-wide c =
-    let known : operation c.args.t1 ≤ greatest = omega (arith, c.wide.ensures, c.if-entry-wide.true) in simp tests
+    let known : operation c.args.entry ≤ greatest = omega (arith, c.wide.ensures, c.if-entry-wide.true) in simp tests
 
 pub returns-else-entry-wide : goal.returns-else-entry-wide
 returns-else-entry-wide c =
-    let e = c.args.t1 in
+    let e = c.args.entry in
     let unknown : greatest < operation e = omega (arith, c.wide.ensures, c.if-entry-wide.false) in
     lt-leb (operation e) c.wide.result c.if-entry-wide.false
     ∙ sym (ap (λ (b : Bool). b && leb (gates e) 255) (lt-leb (operation e) greatest unknown))
