@@ -14,7 +14,7 @@ use Rattle.trace.specs.contracts.Read as read
 use Rattle.trace_layout.specs.Layout.{Listing}
 use Rattle.trace_layout.proofs.Rest.{rest_found}
 use Rattle.trace_layout.proofs.Inside.{Inside, found_inside, trace_reading}
-use Rattle.pcap_contents.proofs.Turns.{left_from}
+use Rattle.pcap_contents.proofs.Turns.{left_of}
 use Rattle.pcap_headers.specs.Headers.{capture_record, capture_records}
 use Rattle.pcap_headers.proofs.Lengths.{length_record}
 use Rattle.receiver_record.specs.declared.Record.{Record}
@@ -34,7 +34,7 @@ none_shown r = refl
 module _ (s : List ℕ) where
   -- what is to be written of those from a place on
   abbrev pub remaining : Record → ℕ → List ℕ
-  remaining r from = left_from (read_at s) s (shown_by r) from
+  remaining r from = left_of (read_at s) s (shown_by r) from
 
   module _ (from place n next : ℕ) (e : read_at s from ≡ found place n next) where
     -- the record that is found: its content, and where it lies

@@ -17,7 +17,7 @@ const MORE: usize = pcap_records::HEADER - trace::HEADER;
 const TOO_MANY: usize = 1152921504606846976;
 
 // How many octets a capture has.
-#[derive(Drop)]
+#[derive(Clone, Copy)]
 enum Needed {
     Octets(usize),
     // More than a number has room for.

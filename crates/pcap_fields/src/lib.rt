@@ -5,7 +5,7 @@ ghost use Rattle.std.specs.Prelude.{◌≡◌, ◌+◌, ◌≤◌, length};
 ghost use Rattle.pcap_fields.specs.Fields.{half_in, word_in};
 
 // The order of a field's octets.
-#[derive(Drop)]
+#[derive(Clone, Copy)]
 pub enum Order {
     // The lowest octet first.
     Little,

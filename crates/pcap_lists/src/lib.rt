@@ -10,7 +10,7 @@ use pcap_records::{FILE_HEADER, Read};
 use trace::Cursor;
 
 // What a call that is given a trace or a capture answers.
-#[derive(Drop)]
+#[derive(Clone, Copy)]
 pub enum Answer {
     // It is good: so many records; or so many octets were written.
     Good(usize),

@@ -24,7 +24,7 @@ const LINK_TYPE: u32 = 274;
 const LIMIT: u32 = 1600;
 
 // Why a capture is refused: 70 to 77.
-#[derive(Drop)]
+#[derive(Clone, Copy)]
 pub enum Refusal {
     // The file's header is cut.
     FileHeader,
@@ -58,14 +58,14 @@ impl Refusal {
     }
 }
 
-#[derive(Drop)]
+#[derive(Clone, Copy)]
 pub enum Opened {
     // The order of all fields of the file.
     Good(Order),
     Refused(Refusal),
 }
 
-#[derive(Drop)]
+#[derive(Clone, Copy)]
 pub enum Read {
     // A whole record: where its content starts, the content's length, and the place of the next record.
     Record {

@@ -14,13 +14,13 @@ pub const LIMIT: usize = 1600;
 const KIND: usize = 1;
 
 // A place in a trace: that of the record to be read next.
-#[derive(Drop)]
+#[derive(Clone, Copy)]
 pub struct Cursor {
     pub at: usize,
 }
 
 // Why a record is refused: 50 to 53.
-#[derive(Drop)]
+#[derive(Clone, Copy)]
 pub enum Refusal {
     // The header is cut.
     Header,
@@ -45,7 +45,7 @@ impl Refusal {
     }
 }
 
-#[derive(Drop)]
+#[derive(Clone, Copy)]
 pub enum Read {
     // A whole record: where its content starts, the content's length, and the cursor past it.
     Record {

@@ -12,7 +12,7 @@ use Rattle.pcap_headers.specs.Headers.{capture_records}
 use Rattle.pcap_headers.proofs.Laid.{records_room, header_first}
 use Rattle.receiver_record.specs.declared.Record.{Record}
 use Rattle.trace_layout.proofs.Inside.{trace_reading}
-use Rattle.pcap_contents.proofs.Turns.{ends, no_trace_record}
+use Rattle.pcap_contents.proofs.Turns.{ends_of, no_trace_record_of}
 use Rattle.eyes.specs.Eyes.{shown_in}
 use Rattle.eyes.proofs.Turns.{shown_by, remaining, none_shown, lies, part_length, left_over, after_is, turn}
 use Rattle.eyes.proofs.put_shown.Statement.{statement}
@@ -56,7 +56,7 @@ returns c =
     let a = c.before.before.before.before.before.before.before.before.before.before.before.args in
     let l = c.before.before.before.loop in
     let s = a.trace.now in
-    sym (no_trace_record (read_at s) s (trace_reading s) (shown_by l.«record») (none_shown l.«record») l.out l.from l.at c.before.read.result c.before.read.ensures c.match.keys2)
+    sym (no_trace_record_of (read_at s) s (trace_reading s) (shown_by l.«record») (none_shown l.«record») l.out l.from l.at c.before.read.result c.before.read.ensures c.match.keys2)
     ∙ l.invariant.3 ∙ header_first (shown_in s) a.out.now _ c.before.before.before.before.before.before.put-file-header.ensures (records_room (shown_in s) a.out.now c.before.before.before.before.before.before.before.before.before.before.before.requires)
 
 sub-put-shown-record : tie.Need-overflow-sub-put-shown-record invariant-loop decreases-loop
@@ -146,7 +146,7 @@ returns-2 c =
     let a = c.before.before.before.before.before.before.before.before.before.args in
     let l = c.before.loop in
     let s = a.trace.now in
-    sym (ends (read_at s) s (trace_reading s) (shown_by l.«record») (none_shown l.«record») l.out l.from l.at (read_end s l.from c.loop-test.false))
+    sym (ends_of (read_at s) s (trace_reading s) (shown_by l.«record») (none_shown l.«record») l.out l.from l.at (read_end s l.from c.loop-test.false))
     ∙ l.invariant.3 ∙ header_first (shown_in s) a.out.now _ c.before.before.before.before.put-file-header.ensures (records_room (shown_in s) a.out.now c.before.before.before.before.before.before.before.before.before.requires)
 
 pub put-shown-spec : {M : Type 1} → statement M

@@ -22,7 +22,7 @@ use Rattle.pcap_contents.proofs.put_capture.Tie as tie
 
 -- what is left from a place on
 abbrev remaining : List ℕ → ℕ → List ℕ
-remaining s from = left_from (read_at s) s capture_records from
+remaining s from = left_from (read_at s) s (trace_reading s) capture_record capture_records capture_layout from
 
 -- a record that is found at a place: its content's length, and how much is left behind it
 found-lengths : (s : List ℕ) (from place n next : ℕ) → read_at s from ≡ found place n next
@@ -70,7 +70,7 @@ returns c =
     let a = c.before.before.before.before.before.before.before.before.before.before.args in
     let l = c.before.before.before.loop in
     let s = a.trace.now in
-    sym (no_trace_record (read_at s) s (trace_reading s) capture_records capture_layout.none l.out l.from l.at c.before.read.result c.before.read.ensures c.match.keys2)
+    sym (no_trace_record (read_at s) s (trace_reading s) capture_record capture_records capture_layout l.out l.from l.at c.before.read.result c.before.read.ensures c.match.keys2)
     ∙ l.invariant.2 ∙ header_first (read_all s).contents a.out.now _ c.before.before.before.before.before.before.put-file-header.ensures (records_room (read_all s).contents a.out.now c.before.before.before.before.before.before.before.before.before.before.requires)
 
 sub-put-capture-record : tie.Need-overflow-sub-put-capture-record invariant-loop decreases-loop
@@ -151,7 +151,7 @@ returns-2 c =
     let a = c.before.before.before.before.before.before.before.before.args in
     let l = c.before.loop in
     let s = a.trace.now in
-    sym (ends (read_at s) s (trace_reading s) capture_records capture_layout.none l.out l.from l.at (read_end s l.from c.loop-test.false))
+    sym (ends (read_at s) s (trace_reading s) capture_record capture_records capture_layout l.out l.from l.at (read_end s l.from c.loop-test.false))
     ∙ l.invariant.2 ∙ header_first (read_all s).contents a.out.now _ c.before.before.before.before.put-file-header.ensures (records_room (read_all s).contents a.out.now c.before.before.before.before.before.before.before.before.requires)
 
 pub put-capture-spec : {M : Type 1} → statement M

@@ -23,7 +23,7 @@ use Rattle.pcap_contents.proofs.put_trace.Tie as tie
 
 -- what is left from a place on
 abbrev remaining : Order → List ℕ → ℕ → List ℕ
-remaining o s from = left_from (record_at o s) s trace_of from
+remaining o s from = left_from (record_at o s) s (capture_reading o s) record_of trace_of trace_layout from
 
 -- a record that is found at a place: its content's length, and how much is left behind it
 found-lengths : (o : Order) (s : List ℕ) (from place n next : ℕ) → record_at o s from ≡ found place n next
@@ -62,7 +62,7 @@ returns c =
     let a = c.before.before.before.before.before.before.args in
     let l = c.before.before.before.loop in
     let s = a.capture.now in
-    sym (no_capture_record (record_at a.order s) s (capture_reading a.order s) trace_of trace_layout.none l.out l.from l.at c.before.record-at.result c.before.record-at.ensures c.match.keys2)
+    sym (no_capture_record (record_at a.order s) s (capture_reading a.order s) record_of trace_of trace_layout l.out l.from l.at c.before.record-at.result c.before.record-at.ensures c.match.keys2)
     ∙ l.invariant.2 ∙ laid_front a.out.now _
 
 sub-put-trace-record : tie.Need-overflow-sub-put-trace-record invariant-loop decreases-loop
@@ -143,7 +143,7 @@ returns-2 c =
     let a = c.before.before.before.before.args in
     let l = c.before.loop in
     let s = a.capture.now in
-    sym (ends (record_at a.order s) s (capture_reading a.order s) trace_of trace_layout.none l.out l.from l.at (read_end a.order s l.from c.loop-test.false))
+    sym (ends (record_at a.order s) s (capture_reading a.order s) record_of trace_of trace_layout l.out l.from l.at (read_end a.order s l.from c.loop-test.false))
     ∙ l.invariant.2 ∙ laid_front a.out.now _
 
 pub put-trace-spec : {M : Type 1} → statement M
