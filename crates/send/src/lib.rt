@@ -10,7 +10,7 @@ use sender_answers::Answer;
 use sender_record::{Record, Ruling};
 
 // What a call answers, and the record that it hands back.
-#[derive(Drop)]
+#[derive(Clone, Copy)]
 pub struct Sending {
     pub answer: Answer,
     pub after: Record,
