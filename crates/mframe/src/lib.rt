@@ -19,7 +19,7 @@ pub const HEADER: usize = 8;
 
 pub const CHECK: usize = 4;
 
-#[derive(Drop)]
+#[derive(Clone, Copy)]
 pub enum Kind {
     Express,
     Start(FrameCount),
