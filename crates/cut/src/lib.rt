@@ -5,14 +5,14 @@ ghost use Rattle.std.specs.Prelude.{◌≡◌};
 ghost use Rattle.cut.specs.Cut.{part_of, minimum};
 
 // What the caller asks: nothing, or to make way when this many of the mFrame's data octets are on the wire.
-#[derive(Drop)]
+#[derive(Clone, Copy)]
 pub enum Ask {
     None,
     At(usize),
 }
 
 // What goes now: all that is left of the frame, or so many of its octets.
-#[derive(Drop)]
+#[derive(Clone, Copy)]
 pub enum Part {
     Whole,
     Cut(usize),

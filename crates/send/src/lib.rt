@@ -10,7 +10,7 @@ use sender_answers::Answer;
 use sender_record::{Record, Ruling};
 
 // What a call answers, and the record that it hands back.
-#[derive(Drop)]
+#[derive(Clone, Copy)]
 pub struct Sending {
     pub answer: Answer,
     pub after: Record,
@@ -81,8 +81,8 @@ fn moved(r: Record, n: usize, to: usize, done: bool) -> Record
 
 // The part that no test refused. The record holds no register, so the frame's octets so far are summed once here, and the part is copied once.
 fn send(r: Record, body: &[u8], ask: Ask, out: &mut [u8]) -> Sending
-    requires sent_in_bounds { (r.sent + 60 ≤ length body.now) × (length body.now ≤ 1518) }
-    requires in_bounds { 1530 ≤ length out.old }
+    requires enough_body { (r.sent + 60 ≤ length body.now) × (length body.now ≤ 1518) }
+    requires enough_room { 1530 ≤ length out.old }
     ensures { Sent (sent_of r body.now ask) out.old result out.new }
 {
     let n = body.len();

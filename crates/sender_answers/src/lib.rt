@@ -5,7 +5,7 @@ ghost use Rattle.std.specs.Prelude.{◌≡◌};
 ghost use Rattle.sender_answers.specs.Answers.{number};
 
 // Why a sending call refuses: 30 to 34.
-#[derive(Drop)]
+#[derive(Clone, Copy)]
 pub enum Refusal {
     Output,
     Record,
@@ -29,7 +29,7 @@ impl Refusal {
 }
 
 // What a sending call answers.
-#[derive(Drop)]
+#[derive(Clone, Copy)]
 pub enum Answer {
     Wrote { length: usize, done: bool },
     Refused(Refusal),

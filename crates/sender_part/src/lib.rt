@@ -9,7 +9,7 @@ use mframe::{CHECK, Kind};
 use sender_record::Record;
 
 // Where this part ends in the body, and whether that is the frame's end.
-#[derive(Drop)]
+#[derive(Clone, Copy)]
 pub struct End {
     pub to: usize,
     pub done: bool,

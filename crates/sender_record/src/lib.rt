@@ -13,7 +13,7 @@ use sender_answers::Refusal;
 const PART_LEAST: usize = 60;
 
 // The sending record. Length, sent and fragment are those of a frame in progress, and all 0 where there is none.
-#[derive(Drop)]
+#[derive(Clone, Copy)]
 pub struct Record {
     pub active: bool,
     pub hold: bool,
@@ -116,7 +116,7 @@ fn is_held(r: Record) -> bool
 }
 
 // Whether the call goes on.
-#[derive(Drop)]
+#[derive(Clone, Copy)]
 pub enum Ruling {
     Go,
     Stop(Refusal),
