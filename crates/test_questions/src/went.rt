@@ -3,7 +3,7 @@ use crate::read;
 use crate::read::Question;
 use std::io::{IsTerminal, Print};
 
-#[derive(Drop)]
+#[derive(Clone, Copy)]
 pub enum Went {
     On,
     // The input had ended, and nothing more was asked.
