@@ -10,7 +10,13 @@ ghost use Rattle.std.specs.Prelude.{◌≤◌, length};
 use crate::reading::ENOUGH;
 use crate::sentences::{refused, say};
 use gate_lists::Answer;
-use libc::{STDIN_FILENO, STDOUT_FILENO};
+use std::env::{Env, FillError};
+use std::fs;
+use std::io::{IsTerminal, Print, Read};
+use std::str;
+
+// The octets of the longest name, and one more.
+const NAME: usize = 4096;
 
 // The most entries of a list, and so the most events.
 const MOST: usize = 256;
@@ -29,79 +35,81 @@ fn first(events: &[[u64; 2]], n: usize) -> &[[u64; 2]]
 }
 
 // All lines, in one piece.
-fn write(events: &[[u64; 2]], cycle: u64)
+fn write(rt: HostRuntime, events: &[[u64; 2]], cycle: u64)
     requires { length events.now ≤ 256 }
 {
     let mut out = [0u8; ROOM];
     let end = hold_lines::all_lines(events, cycle, &mut out);
-    if !io::write_all(STDOUT_FILENO, &out[0..end]) {
-        say(b"mmholds: the events could not be written.\n");
+    if rt.write_all(&out[0..end]).is_err() {
+        say(rt, b"mmholds: the events could not be written.\n");
     }
 }
 
 // The events of a list, or why it is refused. There is room for as many events as a list can have (schedule's `never_short`), so that the last
 // answer does not come.
-fn list(octets: &[u8]) {
+fn list(rt: HostRuntime, octets: &[u8]) {
     let mut events = [[0u64; 2]; MOST];
     let listed = gates::list_events(octets, &mut events);
     let answer = listed.answer;
     match answer {
-        Answer::Good(n) => write(first(&events, n as usize), listed.cycle),
-        Answer::Refused { why, entry } => refused(why, entry),
+        Answer::Good(n) => write(rt, first(&events, n as usize), listed.cycle),
+        Answer::Refused { why, entry } => refused(rt, why, entry),
         Answer::Short(_) => {}
     }
 }
 
 // The list that an open file holds. A terminal has none to give: whoever sits at it is told how to give one.
-fn list_file(fd: i32) {
-    if libc::isatty(fd) == 1 {
+fn list_file<R: Read + IsTerminal>(rt: HostRuntime, file: &mut R) {
+    if file.is_terminal() {
         say(
+            rt,
             b"mmholds: a list is read from a file or from standard input, as in: mmholds hall.gates\n",
         );
         return;
     }
     let mut octets = [0u8; ENOUGH];
-    let taken = reading::take(fd, &mut octets);
+    let taken = reading::take(file, &mut octets);
     if taken.failed {
-        say(b"mmholds: the list could not be read.\n");
+        say(rt, b"mmholds: the list could not be read.\n");
         return;
     }
     let count = taken.count;
-    list(&octets[0..count]);
+    list(rt, &octets[0..count]);
 }
 
-// Whether a name stands for standard input.
-fn is_dash(name: &[u8]) -> bool {
-    name.len() == 1 && name[0] == b'-'
+// The list in the file of a name, or on standard input.
+fn list_of(rt: HostRuntime, name: &str) {
+    if name == "-" {
+        list_file(rt, &mut rt.stdin());
+        return;
+    }
+    match fs::open(&rt, name) {
+        Ok(mut file) => list_file(rt, &mut file),
+        Err(_) => say(rt, b"mmholds: the list could not be opened.\n"),
+    }
 }
 
-// The list in the file that the first argument names. One that is longer than any name comes out empty, and no file is named so.
-fn list_named() {
-    let mut name = io::buffer();
-    let length = os::arg(1, &mut name);
-    if is_dash(&name[..length]) {
-        list_file(STDIN_FILENO);
-        return;
-    }
-    let fd = os::open_read(&name[..length]);
-    if fd < 0 {
-        say(b"mmholds: the list could not be opened.\n");
-        return;
-    }
-    list_file(fd);
-    libc::close(fd);
+// The list in the file that the first argument names. One that is longer than any name, or no text, comes out empty, and no file is named so.
+fn list_named(rt: HostRuntime) {
+    let mut name = [0u8; NAME];
+    let length = rt.arg(1, &mut name).unwrap_or(0);
+    list_of(rt, str::from_utf8(&name[..length]).unwrap_or(""));
+}
+
+// Whether the program was started with a word at this place, its own name being the first.
+fn is_word(rt: HostRuntime, place: usize) -> bool {
+    !matches!(rt.arg(place, &mut []), Err(FillError::NotPresent))
 }
 
 // The program: a list in the file that its one argument names, or on standard input.
-pub fn run() {
-    let words = os::arg_count();
-    if words > 2 {
-        say(b"mmholds: one list is read at a time, as in: mmholds hall.gates\n");
+pub fn run(rt: HostRuntime) {
+    if is_word(rt, 2) {
+        say(rt, b"mmholds: one list is read at a time, as in: mmholds hall.gates\n");
         return;
     }
-    if words == 2 {
-        list_named();
+    if is_word(rt, 1) {
+        list_named(rt);
         return;
     }
-    list_file(STDIN_FILENO);
+    list_file(rt, &mut rt.stdin());
 }

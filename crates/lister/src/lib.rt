@@ -7,9 +7,10 @@ mod trouble;
 ghost use Rattle.std.specs.Prelude.{◌+◌, ◌≤◌, length};
 
 use crate::trouble::Trouble;
-use libc::{STDERR_FILENO, STDIN_FILENO, STDOUT_FILENO};
 use mframe::BODY_MOST;
 use receiver_record::Record;
+use std::env::{Env, FillError};
+use std::io::{IsTerminal, Print};
 use trace::{Cursor, Read, Refusal};
 use windows::{LONGEST, front, part};
 
@@ -31,16 +32,15 @@ struct Standing {
 }
 
 // What waits could not be written, so that nothing more is listed.
-fn unwritten() {
-    io::write_all(
-        STDERR_FILENO,
-        b"mmlist: the listing could not be written.\n",
-    );
+fn unwritten(rt: HostRuntime) {
+    let _ = rt
+        .stderr()
+        .write_all(b"mmlist: the listing could not be written.\n");
 }
 
 // One more read. Behind one that fails nothing comes; what was read before is listed all the same.
-fn refill(s: Standing, window: &mut [u8]) -> Standing {
-    let filled = windows::read_on(STDIN_FILENO, window, s.from, s.to);
+fn refill(rt: HostRuntime, s: Standing, window: &mut [u8]) -> Standing {
+    let filled = windows::read_on(&mut rt.stdin(), window, s.from, s.to);
     let mut trouble = Trouble::None;
     if filled.failed {
         trouble = Trouble::Unread;
@@ -136,7 +136,7 @@ fn stop(s: Standing, refusal: Refusal, out: &mut [u8], at: usize) -> Standing
 }
 
 // The last line, written with all that waits; then what is to be said of the trace.
-fn finish(s: Standing, out: &mut [u8], at: usize)
+fn finish(rt: HostRuntime, s: Standing, out: &mut [u8], at: usize)
     requires { at + 88 ≤ length out.old }
 {
     let c = s.record.counters;
@@ -148,23 +148,24 @@ fn finish(s: Standing, out: &mut [u8], at: usize)
         out,
         at,
     );
-    if !io::write_all(STDOUT_FILENO, front(out, next)) {
-        unwritten();
+    if rt.write_all(front(out, next)).is_err() {
+        unwritten(rt);
         return;
     }
     let trouble = s.trouble;
-    trouble.say(s.number);
+    trouble.say(rt, s.number);
 }
 
 // The line of what was found, where there is room for one.
 fn put(
+    rt: HostRuntime,
     s: Standing,
     found: Found,
     window: &[u8],
     buffer: &mut [u8; BODY_MOST],
     out: &mut [u8; 65536],
 ) -> Standing {
-    let place = windows::place_for(STDOUT_FILENO, out, s.waiting, LINE);
+    let place = windows::place_for(&mut rt.stdout(), out, s.waiting, LINE);
     let at = place.at;
     if place.free {
         match found {
@@ -173,10 +174,10 @@ fn put(
                 return list_record(s, content, end, buffer, out, at);
             }
             Found::Refused(refusal) => return stop(s, refusal, out, at),
-            Found::Part | Found::End => finish(s, out, at),
+            Found::Part | Found::End => finish(rt, s, out, at),
         }
     } else {
-        unwritten();
+        unwritten(rt);
     }
     let mut t = s;
     t.going = false;
@@ -184,6 +185,7 @@ fn put(
 }
 
 fn turn(
+    rt: HostRuntime,
     s: Standing,
     window: &mut [u8; 65536],
     buffer: &mut [u8; BODY_MOST],
@@ -191,9 +193,9 @@ fn turn(
 ) -> Standing {
     let found = find(s, window);
     if let Found::Part = found {
-        return refill(s, window);
+        return refill(rt, s, window);
     }
-    put(s, found, window, buffer, out)
+    put(rt, s, found, window, buffer, out)
 }
 
 // Before the first record: the receiver is fresh, and the title waits.
@@ -210,36 +212,37 @@ fn begin(out: &mut [u8; 65536]) -> Standing {
     }
 }
 
-// The turns of a listing. A proved loop has to end, and nothing says that the input does: it counts its turns down from more than any input
-// has.
-fn list_all() {
-    let mut window = io::large_buffer();
+// The turns of a listing. A proved loop has to end, and nothing says that the input does: it has more turns than any input.
+fn list_all(rt: HostRuntime) {
+    let mut window = [0u8; 65536];
     let mut buffer = [0u8; BODY_MOST];
-    let mut out = io::large_buffer();
+    let mut out = [0u8; 65536];
     let mut s = begin(&mut out);
-    let mut turns = u64::MAX;
-    while turns > 0 {
-        s = turn(s, &mut window, &mut buffer, &mut out);
+    for _ in 0..u64::MAX {
+        s = turn(rt, s, &mut window, &mut buffer, &mut out);
         if !s.going {
             return;
         }
-        turns -= 1;
     }
+}
+
+// Whether the program was started with a word at this place, its own name being the first.
+fn is_word(rt: HostRuntime, place: usize) -> bool {
+    !matches!(rt.arg(place, &mut []), Err(FillError::NotPresent))
 }
 
 // Whether no trace is given on standard input: a terminal has none, and whoever names a file means to give that one.
-fn none_given() -> bool {
-    os::arg_count() > 1 || libc::isatty(STDIN_FILENO) == 1
+fn none_given(rt: HostRuntime) -> bool {
+    is_word(rt, 1) || rt.stdin().is_terminal()
 }
 
 // The listing of standard input, on standard output. Who gives no trace there is told how to give one.
-pub fn run() {
-    if none_given() {
-        io::write_all(
-            STDERR_FILENO,
-            b"mmlist: a trace is read on standard input, as in: mmlist <row.trace\n",
-        );
+pub fn run(rt: HostRuntime) {
+    if none_given(rt) {
+        let _ = rt
+            .stderr()
+            .write_all(b"mmlist: a trace is read on standard input, as in: mmlist <row.trace\n");
         return;
     }
-    list_all();
+    list_all(rt);
 }

@@ -1,5 +1,5 @@
 // What is said on standard error of a trace that is listed no further, once its listing is written.
-use libc::STDERR_FILENO;
+use std::io::Print;
 use trace::Refusal;
 
 // Why a trace is listed no further.
@@ -14,14 +14,16 @@ pub(crate) enum Trouble {
 
 impl Trouble {
     // Says it, where there is something to say; the number is that of the record that was to be listed.
-    pub(crate) fn say(self, number: u64) {
+    pub(crate) fn say(self, rt: HostRuntime, number: u64) {
         match self {
             Trouble::None => {}
             Trouble::Unread => {
-                io::write_all(STDERR_FILENO, b"mmlist: the trace could not be read.\n");
+                let _ = rt
+                    .stderr()
+                    .write_all(b"mmlist: the trace could not be read.\n");
             }
             Trouble::Refused(refusal) => {
-                sentences::say_refused(b"mmlist: record ", number, refusal)
+                sentences::say_refused(rt, b"mmlist: record ", number, refusal)
             }
         }
     }

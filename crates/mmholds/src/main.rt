@@ -1,6 +1,6 @@
 // The holds and releases of a gate control list (document 02, (i)).
 #![tactic(auto)]
 
-fn main() {
-    holds::run();
+fn main(rt: HostRuntime) {
+    holds::run(rt);
 }

@@ -1,6 +1,6 @@
 // A capture made from a trace, plain or for eyes, or a trace from a capture (document 02, (vii)).
 #![tactic(auto)]
 
-fn main() {
-    capturer::run();
+fn main(rt: HostRuntime) {
+    capturer::run(rt);
 }

@@ -1,6 +1,6 @@
 // Document 01's own example of a trace, listed as mmlist lists any.
 #![tactic(auto)]
 
-fn main() {
-    lister::run();
+fn main(rt: HostRuntime) {
+    lister::run(rt);
 }

@@ -38,20 +38,16 @@ fn event_at(octets: &[u8], at: usize) -> [u64; 2]
 fn take_entries(octets: &[u8; 3600], entries: &mut [[u32; 3]])
     requires { length entries.old ≤ 300 }
 {
-    let mut i = 0;
-    while i < entries.len() {
+    for i in 0..entries.len() {
         entries[i] = entry_at(octets, i * 12);
-        i += 1;
     }
 }
 
 fn take_events(octets: &[u8; 4800], events: &mut [[u64; 2]])
     requires { length events.old ≤ 300 }
 {
-    let mut i = 0;
-    while i < events.len() {
+    for i in 0..events.len() {
         events[i] = event_at(octets, i * 16);
-        i += 1;
     }
 }
 
@@ -114,41 +110,37 @@ fn over_event(register: u32, event: [u64; 2]) -> u32 {
     over_long(over_long(register, event[0]), event[1])
 }
 
-fn say_entries(entries: &[[u32; 3]]) {
+fn say_entries(rt: HostRuntime, entries: &[[u32; 3]]) {
     let mut register = crc::ALL_ONES;
-    let mut i = 0;
-    while i < entries.len() {
-        register = over_entry(register, entries[i]);
-        i += 1;
+    for entry in entries {
+        register = over_entry(register, *entry);
     }
-    say::octets(crc::fcs(register));
+    say::octets(rt, crc::fcs(register));
 }
 
-fn say_events(events: &[[u64; 2]]) {
+fn say_events(rt: HostRuntime, events: &[[u64; 2]]) {
     let mut register = crc::ALL_ONES;
-    let mut i = 0;
-    while i < events.len() {
-        register = over_event(register, events[i]);
-        i += 1;
+    for event in events {
+        register = over_event(register, *event);
     }
-    say::octets(crc::fcs(register));
+    say::octets(rt, crc::fcs(register));
 }
 
-fn say_octets(list: &[u8]) {
-    say::octets(crc::fcs(crc::over(crc::ALL_ONES, list)));
+fn say_octets(rt: HostRuntime, list: &[u8]) {
+    say::octets(rt, crc::fcs(crc::over(crc::ALL_ONES, list)));
 }
 
-fn say_answer(answer: Answer) {
-    say::number(answer.number() as u64);
-    say::number(answer.value() as u64);
+fn say_answer(rt: HostRuntime, answer: Answer) {
+    say::number(rt, answer.number() as u64);
+    say::number(rt, answer.value() as u64);
 }
 
-fn read_list(q: Question) -> Went {
+fn read_list(rt: HostRuntime, q: Question) -> Went {
     let mut list = [0u8; 2048];
     let mut space = [[0u32; 3]; 300];
     let n = q.short(1);
     let room = q.short(3);
-    if !read::part(&mut list, 0, n) {
+    if !read::part(rt, &mut list, 0, n) {
         return Went::Broken;
     }
     let out = lent_entries(&mut space, room, q.octet(5));
@@ -156,13 +148,13 @@ fn read_list(q: Question) -> Went {
         return Went::Broken;
     }
     let answer = gates::read_list(read::front(&list, n), out);
-    say::text(b"read");
-    say_answer(answer);
-    say_entries(out);
-    Went::answered(say::line_end())
+    say::text(rt, b"read");
+    say_answer(rt, answer);
+    say_entries(rt, out);
+    Went::answered(say::line_end(rt))
 }
 
-fn write_list(q: Question) -> Went {
+fn write_list(rt: HostRuntime, q: Question) -> Went {
     let mut given = [0u8; 3600];
     let mut entries = [[0u32; 3]; 300];
     let mut space = [0u8; 2048];
@@ -171,7 +163,7 @@ fn write_list(q: Question) -> Went {
     if MOST < n {
         return Went::Broken;
     }
-    if !read::part(&mut given, 0, n * 12) {
+    if !read::part(rt, &mut given, 0, n * 12) {
         return Went::Broken;
     }
     let out = read::lent(&mut space, room, q.octet(5));
@@ -180,18 +172,18 @@ fn write_list(q: Question) -> Went {
     }
     take_entries(&given, &mut entries);
     let answer = gates::write_list(front_entries(&entries, n), out);
-    say::text(b"write");
-    say_answer(answer);
-    say_octets(out);
-    Went::answered(say::line_end())
+    say::text(rt, b"write");
+    say_answer(rt, answer);
+    say_octets(rt, out);
+    Went::answered(say::line_end(rt))
 }
 
-fn list_events(q: Question) -> Went {
+fn list_events(rt: HostRuntime, q: Question) -> Went {
     let mut list = [0u8; 2048];
     let mut space = [[0u64; 2]; 300];
     let n = q.short(1);
     let room = q.short(3);
-    if !read::part(&mut list, 0, n) {
+    if !read::part(rt, &mut list, 0, n) {
         return Went::Broken;
     }
     let out = lent_events(&mut space, room, q.octet(5));
@@ -200,34 +192,32 @@ fn list_events(q: Question) -> Went {
     }
     let listed = gates::list_events(read::front(&list, n), out);
     let answer = listed.answer;
-    say::text(b"events");
-    say_answer(answer);
-    say::number(listed.cycle);
-    say_events(out);
-    Went::answered(say::line_end())
+    say::text(rt, b"events");
+    say_answer(rt, answer);
+    say::number(rt, listed.cycle);
+    say_events(rt, out);
+    Went::answered(say::line_end(rt))
 }
 
 // The octets that the numbers of each kind of question take.
 const SIZES: [usize; 4] = [0, 6, 6, 6];
 
-fn question(q: Question) -> Went {
+fn question(rt: HostRuntime, q: Question) -> Went {
     match q.octet(0) {
-        1 => read_list(q),
-        2 => write_list(q),
-        _ => list_events(q),
+        1 => read_list(rt, q),
+        2 => write_list(rt, q),
+        _ => list_events(rt, q),
     }
 }
 
-// A proved loop has to end, and nothing says that the input does: it counts its turns down from more than any input has.
-fn main() {
-    let mut went = Went::start();
-    let mut turns = u32::MAX;
-    while turns > 0 {
-        let q = went.next(b"test_gates", &SIZES);
+// A proved loop has to end, and nothing says that the input does: it has more turns than any input.
+fn main(rt: HostRuntime) {
+    let mut went = Went::start(rt);
+    for _ in 0..u32::MAX {
+        let q = went.next(rt, b"test_gates", &SIZES);
         if !q.asked {
             return;
         }
-        went = question(q);
-        turns -= 1;
+        went = question(rt, q);
     }
 }

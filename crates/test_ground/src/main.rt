@@ -11,159 +11,158 @@ use test_questions::went::Went;
 use test_questions::{read, say};
 
 // The check octets of every number of octets from 0 to all of them.
-fn check_line(register: u32, octets: &[u8], k: usize) -> bool {
+fn check_line(rt: HostRuntime, register: u32, octets: &[u8], k: usize) -> bool {
     let after = crc::over(register, read::front(octets, k));
-    say::text(b"check");
-    say::number(k as u64);
-    say::octets(crc::fcs(after));
-    say::octets(crc::mcrc(after));
-    say::line_end()
+    say::text(rt, b"check");
+    say::number(rt, k as u64);
+    say::octets(rt, crc::fcs(after));
+    say::octets(rt, crc::mcrc(after));
+    say::line_end(rt)
 }
 
-fn check_lines(register: u32, octets: &[u8]) -> bool {
+fn check_lines(rt: HostRuntime, register: u32, octets: &[u8]) -> bool {
     let n = octets.len();
-    let mut k = 0;
-    while k < n {
-        if !check_line(register, octets, k) {
+    for k in 0..n {
+        if !check_line(rt, register, octets, k) {
             return false;
         }
-        k += 1;
     }
-    check_line(register, octets, n)
+    check_line(rt, register, octets, n)
 }
 
 // What an octet says.
-fn say_delimiter(d: Delimiter) {
+fn say_delimiter(rt: HostRuntime, d: Delimiter) {
     match d {
-        Delimiter::Express => say::kind(b" express", 0),
-        Delimiter::Start(n) => say::kind(b" start", n.0),
-        Delimiter::Continuation(n) => say::kind(b" continuation", n.0),
-        Delimiter::Verify => say::kind(b" verify", 0),
-        Delimiter::Respond => say::kind(b" respond", 0),
+        Delimiter::Express => say::kind(rt, b" express", 0),
+        Delimiter::Start(n) => say::kind(rt, b" start", n.0),
+        Delimiter::Continuation(n) => say::kind(rt, b" continuation", n.0),
+        Delimiter::Verify => say::kind(rt, b" verify", 0),
+        Delimiter::Respond => say::kind(rt, b" respond", 0),
         Delimiter::Unknown(bits) => {
-            say::text(b" unknown");
-            say::number(bits as u64);
+            say::text(rt, b" unknown");
+            say::number(rt, bits as u64);
         }
     }
 }
 
-fn say_fragment(f: Fragment) {
+fn say_fragment(rt: HostRuntime, f: Fragment) {
     match f {
-        Fragment::Known(n) => say::small(n.0),
-        Fragment::Unknown => say::text(b" none"),
+        Fragment::Known(n) => say::small(rt, n.0),
+        Fragment::Unknown => say::text(rt, b" none"),
     }
 }
 
-fn octet(octet: u8) -> Went {
-    say::text(b"octet");
-    say::small(octet);
-    say::number(delimiters::distance(octet) as u64);
-    say_delimiter(delimiters::delimiter_of(octet));
-    say_fragment(delimiters::fragment_of(octet));
-    Went::answered(say::line_end())
+fn octet(rt: HostRuntime, octet: u8) -> Went {
+    say::text(rt, b"octet");
+    say::small(rt, octet);
+    say::number(rt, delimiters::distance(octet) as u64);
+    say_delimiter(rt, delimiters::delimiter_of(octet));
+    say_fragment(rt, delimiters::fragment_of(octet));
+    Went::answered(say::line_end(rt))
 }
 
 // A count's steps and codes.
-fn count(n: u8) -> Went {
+fn count(rt: HostRuntime, n: u8) -> Went {
     let frame = FrameCount(n);
     let fragment = FragmentCount(n);
     let next = frame.next();
     let last = frame.last();
     let later = fragment.next();
-    say::text(b"count");
-    say::small(n);
-    say::small(next.0);
-    say::small(last.0);
-    say::small(frame.code());
-    say::small(frame.continued());
-    say::small(later.0);
-    say::small(fragment.code());
-    Went::answered(say::line_end())
+    say::text(rt, b"count");
+    say::small(rt, n);
+    say::small(rt, next.0);
+    say::small(rt, last.0);
+    say::small(rt, frame.code());
+    say::small(rt, frame.continued());
+    say::small(rt, later.0);
+    say::small(rt, fragment.code());
+    Went::answered(say::line_end(rt))
 }
 
 // Where an mFrame is cut.
-fn say_part(p: Part) -> bool {
-    say::text(b"cut");
+fn say_part(rt: HostRuntime, p: Part) -> bool {
+    say::text(rt, b"cut");
     match p {
-        Part::Whole => say::text(b" whole"),
-        Part::Cut(n) => say::number(n as u64),
+        Part::Whole => say::text(rt, b" whole"),
+        Part::Cut(n) => say::number(rt, n as u64),
     }
-    say::line_end()
+    say::line_end(rt)
 }
 
 fn ask_of(asked: u8, t: usize) -> Ask {
     if asked == 0 { Ask::None } else { Ask::At(t) }
 }
 
-fn cut_asked(q: Question) -> Went {
+fn cut_asked(rt: HostRuntime, q: Question) -> Went {
     let ask = ask_of(q.octet(18), q.long(19));
-    Went::answered(say_part(cut::next_part(q.long(1), q.long(9), q.octet(17), ask)))
+    Went::answered(say_part(rt, cut::next_part(q.long(1), q.long(9), q.octet(17), ask)))
 }
 
 // What the last four octets decide.
-fn say_ending(e: Ending) -> bool {
-    say::text(b"ending");
+fn say_ending(rt: HostRuntime, e: Ending) -> bool {
+    say::text(rt, b"ending");
     match e {
         Ending::Done(n) => {
-            say::text(b" done");
-            say::number(n as u64);
+            say::text(rt, b" done");
+            say::number(rt, n as u64);
         }
         Ending::More(n, register) => {
-            say::text(b" more");
-            say::number(n as u64);
-            say::word(register as u64);
+            say::text(rt, b" more");
+            say::number(rt, n as u64);
+            say::word(rt, register as u64);
         }
-        Ending::Damaged => say::text(b" damaged"),
+        Ending::Damaged => say::text(rt, b" damaged"),
     }
-    say::line_end()
+    say::line_end(rt)
 }
 
 // A register and a run of octets: their check octets, or their ending.
-fn over_octets(q: Question, check: bool) -> Went {
+fn over_octets(rt: HostRuntime, q: Question, check: bool) -> Went {
     let mut space = [0u8; 2048];
     let register = q.word(1);
     let n = q.short(5);
-    if !read::part(&mut space, 0, n) {
+    if !read::part(rt, &mut space, 0, n) {
         return Went::Broken;
     }
     let octets = read::front(&space, n);
     if check {
-        return Went::answered(check_lines(register, octets));
+        return Went::answered(check_lines(rt, register, octets));
     }
-    Went::answered(say_ending(endings::judge(register, octets)))
+    Went::answered(say_ending(rt, endings::judge(register, octets)))
 }
 
 // A piece laid into memory.
-fn no_room() -> bool {
-    say::text(b"lay no room");
-    say::line_end()
+fn no_room(rt: HostRuntime) -> bool {
+    say::text(rt, b"lay no room");
+    say::line_end(rt)
 }
 
-fn lay_piece(piece: &[u8], memory: &mut [u8], at: usize) -> bool {
+fn lay_piece(rt: HostRuntime, piece: &[u8], memory: &mut [u8], at: usize) -> bool {
     if memory.len() < at {
-        return no_room();
+        return no_room(rt);
     }
     if memory.len() - at < piece.len() {
-        return no_room();
+        return no_room(rt);
     }
     octets::copy_into(piece, memory, at);
-    say::text(b"lay ");
-    say::hex_octets(memory);
-    say::line_end()
+    say::text(rt, b"lay ");
+    say::hex_octets(rt, memory);
+    say::line_end(rt)
 }
 
-fn lay(q: Question) -> Went {
+fn lay(rt: HostRuntime, q: Question) -> Went {
     let mut memory = [0u8; 2048];
     let mut piece = [0u8; 2048];
     let n = q.short(1);
     let m = q.short(3);
-    if !read::part(&mut memory, 0, n) {
+    if !read::part(rt, &mut memory, 0, n) {
         return Went::Broken;
     }
-    if !read::part(&mut piece, 0, m) {
+    if !read::part(rt, &mut piece, 0, m) {
         return Went::Broken;
     }
     Went::answered(lay_piece(
+        rt,
         read::front(&piece, m),
         read::front_mut(&mut memory, n),
         q.short(5),
@@ -173,27 +172,25 @@ fn lay(q: Question) -> Went {
 // The octets that the numbers of each kind of question take.
 const SIZES: [usize; 7] = [0, 7, 2, 2, 27, 7, 7];
 
-fn question(q: Question) -> Went {
+fn question(rt: HostRuntime, q: Question) -> Went {
     match q.octet(0) {
-        1 => over_octets(q, true),
-        2 => octet(q.octet(1)),
-        3 => count(q.octet(1)),
-        4 => cut_asked(q),
-        5 => over_octets(q, false),
-        _ => lay(q),
+        1 => over_octets(rt, q, true),
+        2 => octet(rt, q.octet(1)),
+        3 => count(rt, q.octet(1)),
+        4 => cut_asked(rt, q),
+        5 => over_octets(rt, q, false),
+        _ => lay(rt, q),
     }
 }
 
-// A proved loop has to end, and nothing says that the input does: it counts its turns down from more than any input has.
-fn main() {
-    let mut went = Went::start();
-    let mut turns = u32::MAX;
-    while turns > 0 {
-        let q = went.next(b"test_ground", &SIZES);
+// A proved loop has to end, and nothing says that the input does: it has more turns than any input.
+fn main(rt: HostRuntime) {
+    let mut went = Went::start(rt);
+    for _ in 0..u32::MAX {
+        let q = went.next(rt, b"test_ground", &SIZES);
         if !q.asked {
             return;
         }
-        went = question(q);
-        turns -= 1;
+        went = question(rt, q);
     }
 }

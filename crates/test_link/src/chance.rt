@@ -21,10 +21,8 @@ pub(crate) fn length(x: u32) -> usize {
 // The octets of a body that is made from y. A shorter one has the first of them.
 pub(crate) fn fill(y: u32, body: &mut [u8]) {
     let mut x = y;
-    let mut i = 0;
-    while i < body.len() {
+    for place in body {
         x = step(x);
-        body[i] = (x / 65536 % 256) as u8;
-        i += 1;
+        *place = (x / 65536 % 256) as u8;
     }
 }

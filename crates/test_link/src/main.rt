@@ -123,32 +123,32 @@ fn send_one(before: Link, out: &mut [u8; 1530]) -> Link {
 }
 
 // The body of a delivered frame: its FCS.
-fn say_body(body: &[u8]) {
-    say::octets(crc::fcs(crc::over(crc::ALL_ONES, body)));
+fn say_body(rt: HostRuntime, body: &[u8]) {
+    say::octets(rt, crc::fcs(crc::over(crc::ALL_ONES, body)));
 }
 
 // An mFrame that arrives: the receiver's answer.
-fn arrive(l: Link, mframe: &[u8], buffer: &mut [u8; 1518]) -> Link {
+fn arrive(rt: HostRuntime, l: Link, mframe: &[u8], buffer: &mut [u8; 1518]) -> Link {
     let r = l.receiver;
     let got = receive::receive(mframe, r, buffer);
     let answer = got.answer;
     let after = got.after;
     let number = answer.number();
     let detail = answer.detail();
-    say::first(number as u64);
-    say::number(detail as u64);
+    say::first(rt, number as u64);
+    say::number(rt, detail as u64);
     if number == 0 {
-        say_body(express_body::express_body(mframe));
+        say_body(rt, express_body::express_body(mframe));
     }
     if number == 1 {
-        say_body(read::front(buffer, detail));
+        say_body(rt, read::front(buffer, detail));
     }
     let t = l.tally;
     let tally = t.answered(number);
     let mut next = l;
     next.receiver = after;
     next.tally = tally;
-    next.written = say::line_end();
+    next.written = say::line_end(rt);
     next
 }
 
@@ -162,15 +162,13 @@ fn is_lost(x: u32, preemptable: bool, run: u32) -> bool {
 
 // How many octets 55 lead an mFrame, up to a number.
 fn leading(mframe: &[u8], most: u32) -> u32 {
-    let mut k: u32 = 0;
-    while k < most {
+    for k in 0..most {
         if mframe.len() <= k as usize {
             return k;
         }
         if mframe[k as usize] != 0x55 {
             return k;
         }
-        k += 1;
     }
     most
 }
@@ -181,7 +179,7 @@ fn shortened(mframe: &[u8], dropped: u32) -> &[u8] {
 }
 
 // The fate of an mFrame: lost, or how many of its leading octets 55 the link drops.
-fn fate(l: Link, out: &[u8], buffer: &mut [u8; 1518]) -> Link {
+fn fate(rt: HostRuntime, l: Link, out: &[u8], buffer: &mut [u8; 1518]) -> Link {
     let x = chance::step(l.x);
     let t = l.tally;
     let lost = is_lost(x, l.preemptable, t.run);
@@ -197,35 +195,36 @@ fn fate(l: Link, out: &[u8], buffer: &mut [u8; 1518]) -> Link {
     let y = chance::step(x);
     next.x = y;
     arrive(
+        rt,
         next,
         shortened(read::front(out, l.wrote), chance::one_of(y, 9)),
         buffer,
     )
 }
 
-fn say_end(l: Link) -> bool {
+fn say_end(rt: HostRuntime, l: Link) -> bool {
     let t = l.tally;
     let r = l.receiver;
     let c = r.counters;
-    say::text(b"end");
-    tally::write(t);
-    say::number(c.errors as u64);
-    say::number(c.delimiters as u64);
-    say::number(c.assembled as u64);
-    say::number(c.fragments as u64);
-    say::line_end()
+    say::text(rt, b"end");
+    tally::write(rt, t);
+    say::number(rt, c.errors as u64);
+    say::number(rt, c.delimiters as u64);
+    say::number(rt, c.assembled as u64);
+    say::number(rt, c.fragments as u64);
+    say::line_end(rt)
 }
 
-fn one_turn(before: Link, out: &mut [u8; 1530], buffer: &mut [u8; 1518]) -> Link {
+fn one_turn(rt: HostRuntime, before: Link, out: &mut [u8; 1530], buffer: &mut [u8; 1518]) -> Link {
     let l = send_one(before, out);
     if l.wrote == 0 {
         return l;
     }
-    fate(l, out, buffer)
+    fate(rt, l, out, buffer)
 }
 
 // All turns of an entry.
-fn play(seed: u32, turns: u32) -> bool {
+fn play(rt: HostRuntime, seed: u32, turns: u32) -> bool {
     let mut out = [0u8; 1530];
     let mut buffer = [0u8; 1518];
     let mut l = Link {
@@ -240,27 +239,23 @@ fn play(seed: u32, turns: u32) -> bool {
         done: false,
         written: true,
     };
-    let mut k = turns;
-    while k > 0 {
-        l = one_turn(l, &mut out, &mut buffer);
+    for _ in 0..turns {
+        l = one_turn(rt, l, &mut out, &mut buffer);
         if !l.written {
             return false;
         }
-        k -= 1;
     }
-    say_end(l)
+    say_end(rt, l)
 }
 
-// A proved loop has to end, and nothing says that the input does: it counts its turns down from more than any input has.
-fn main() {
-    let mut went = Went::start();
-    let mut turns = u32::MAX;
-    while turns > 0 {
-        let q = went.next(b"test_link", &[8]);
+// A proved loop has to end, and nothing says that the input does: it has more turns than any input.
+fn main(rt: HostRuntime) {
+    let mut went = Went::start(rt);
+    for _ in 0..u32::MAX {
+        let q = went.next(rt, b"test_link", &[8]);
         if !q.asked {
             return;
         }
-        went = Went::answered(play(q.word(0), q.word(4)));
-        turns -= 1;
+        went = Went::answered(play(rt, q.word(0), q.word(4)));
     }
 }

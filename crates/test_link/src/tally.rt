@@ -71,11 +71,11 @@ impl Tally {
     }
 }
 
-pub(crate) fn write(t: Tally) {
-    say::number(t.sent as u64);
-    say::number(t.whole as u64);
-    say::number(t.delivered as u64);
-    say::number(t.express as u64);
-    say::number(t.longest as u64);
-    say::number(t.most as u64);
+pub(crate) fn write(rt: HostRuntime, t: Tally) {
+    say::number(rt, t.sent as u64);
+    say::number(rt, t.whole as u64);
+    say::number(rt, t.delivered as u64);
+    say::number(rt, t.express as u64);
+    say::number(rt, t.longest as u64);
+    say::number(rt, t.most as u64);
 }

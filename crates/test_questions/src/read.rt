@@ -2,10 +2,10 @@
 ghost use Rattle.std.specs.Prelude.{◌+◌, ◌≤◌};
 
 use crate::went::Went;
-use libc::STDIN_FILENO;
+use std::io::Read;
 
 // The octets of a question's numbers, its kind in front, where one was asked.
-#[derive(Drop)]
+#[derive(Clone, Copy)]
 pub struct Question {
     pub asked: bool,
     pub octets: [u8; 32],
@@ -18,9 +18,9 @@ impl Question {
     };
 
     // The question of so many octets that begins with this one.
-    pub(crate) fn begun(first: u8, size: usize) -> Question {
+    pub(crate) fn begun(rt: HostRuntime, first: u8, size: usize) -> Question {
         let mut octets = [first; 32];
-        let asked = part(&mut octets, 1, size);
+        let asked = part(rt, &mut octets, 1, size);
         Question { asked, octets }
     }
 
@@ -60,26 +60,23 @@ fn joined(a: u8, b: u8, c: u8, d: u8) -> u32 {
 }
 
 // A question's first octet. Before it the input may end.
-pub(crate) fn first(space: &mut [u8; 1]) -> Went {
-    let got = libc::read(STDIN_FILENO, space);
-    if got < 0 {
-        return Went::Unread;
+pub(crate) fn first(rt: HostRuntime, space: &mut [u8; 1]) -> Went {
+    match rt.stdin().read(space) {
+        Ok(0) => Went::Over,
+        Ok(_) => Went::On,
+        Err(_) => Went::Unread,
     }
-    if got == 0 {
-        return Went::Over;
-    }
-    Went::On
 }
 
 // Whether the octets of the space from one place up to another were filled; false where it has no such part.
-pub fn part(space: &mut [u8], from: usize, to: usize) -> bool {
+pub fn part(rt: HostRuntime, space: &mut [u8], from: usize, to: usize) -> bool {
     if to < from {
         return false;
     }
     if space.len() < to {
         return false;
     }
-    io::read_full(STDIN_FILENO, &mut space[from..to]) == to - from
+    rt.stdin().read_exact(&mut space[from..to]).is_ok()
 }
 
 // Lent memory: the first n octets of the space, or all where there are fewer. No call wrote them: place i has the octet (first + i) modulo 256.

@@ -1,9 +1,9 @@
 // How a question went. The first that does not go on ends its program, which says why, once: a program has no exit status.
 use crate::read;
 use crate::read::Question;
-use libc::{STDERR_FILENO, STDIN_FILENO};
+use std::io::{IsTerminal, Print};
 
-#[derive(Drop)]
+#[derive(Clone, Copy)]
 pub enum Went {
     On,
     // The input had ended, and nothing more was asked.
@@ -20,8 +20,8 @@ pub enum Went {
 
 impl Went {
     // Before the first question.
-    pub fn start() -> Went {
-        if libc::isatty(STDIN_FILENO) == 1 {
+    pub fn start(rt: HostRuntime) -> Went {
+        if rt.stdin().is_terminal() {
             return Went::Terminal;
         }
         Went::On
@@ -33,37 +33,38 @@ impl Went {
     }
 
     // Whether the program of this name goes on.
-    pub fn goes_on(self, name: &[u8]) -> bool {
+    pub fn goes_on(self, rt: HostRuntime, name: &[u8]) -> bool {
         match self {
             Went::On => return true,
             Went::Over => {}
-            Went::Terminal => example(name),
-            Went::Unread => tell(name, b": the questions could not be read.\n"),
+            Went::Terminal => example(rt, name),
+            Went::Unread => tell(rt, name, b": the questions could not be read.\n"),
             Went::Broken => tell(
+                rt,
                 name,
                 b": a question is cut off, or is none that tests/reference/README.md describes.\n",
             ),
-            Went::Unwritten => tell(name, b": the output could not be written.\n"),
+            Went::Unwritten => tell(rt, name, b": the output could not be written.\n"),
         }
         false
     }
 
     // The question that comes next, of one of these sizes; none where the program does not go on.
-    pub fn next(self, name: &[u8], sizes: &[usize]) -> Question {
-        if !self.goes_on(name) {
+    pub fn next(self, rt: HostRuntime, name: &[u8], sizes: &[usize]) -> Question {
+        if !self.goes_on(rt, name) {
             return Question::NONE;
         }
         let mut first = [0u8; 1];
-        let went = read::first(&mut first);
-        if !went.goes_on(name) {
+        let went = read::first(rt, &mut first);
+        if !went.goes_on(rt, name) {
             return Question::NONE;
         }
         let first = first[0];
-        let question = Question::begun(first, size_of(first, sizes));
+        let question = Question::begun(rt, first, size_of(first, sizes));
         if question.asked {
             return question;
         }
-        Went::Broken.goes_on(name);
+        Went::Broken.goes_on(rt, name);
         question
     }
 }
@@ -81,21 +82,22 @@ fn size_of(kind: u8, sizes: &[usize]) -> usize {
     0
 }
 
-fn say(words: &[u8]) {
-    io::write_all(STDERR_FILENO, words);
+fn say(rt: HostRuntime, words: &[u8]) {
+    let _ = rt.stderr().write_all(words);
 }
 
-fn tell(name: &[u8], why: &[u8]) {
-    say(name);
-    say(why);
+fn tell(rt: HostRuntime, name: &[u8], why: &[u8]) {
+    say(rt, name);
+    say(rt, why);
 }
 
 // How the program is run, from the top of the repository.
-fn example(name: &[u8]) {
+fn example(rt: HostRuntime, name: &[u8]) {
     tell(
+        rt,
         name,
         b": the stored questions are read on standard input, as in: scripts/run-program ",
     );
-    tell(name, b" <crates/");
-    tell(name, b"/stdin\n");
+    tell(rt, name, b" <crates/");
+    tell(rt, name, b"/stdin\n");
 }

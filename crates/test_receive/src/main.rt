@@ -50,30 +50,30 @@ fn buffer(kept: Kept, q: Question, space: &mut [u8]) -> Kept {
     Kept { buffer: n, ..kept }
 }
 
-fn say_answer(answer: Answer) {
-    say::first(answer.number() as u64);
-    say::number(answer.detail() as u64);
+fn say_answer(rt: HostRuntime, answer: Answer) {
+    say::first(rt, answer.number() as u64);
+    say::number(rt, answer.detail() as u64);
 }
 
-fn say_record(r: Record) {
+fn say_record(rt: HostRuntime, r: Record) {
     let frame = r.frame;
     let fragment = r.fragment;
-    say::flag(r.assembling);
-    say::small(frame.0);
-    say::small(fragment.0);
-    say::number(r.kept as u64);
-    say::word(r.running as u64);
+    say::flag(rt, r.assembling);
+    say::small(rt, frame.0);
+    say::small(rt, fragment.0);
+    say::number(rt, r.kept as u64);
+    say::word(rt, r.running as u64);
 }
 
-fn say_counters(c: Counters) {
-    say::number(c.errors as u64);
-    say::number(c.delimiters as u64);
-    say::number(c.assembled as u64);
-    say::number(c.fragments as u64);
+fn say_counters(rt: HostRuntime, c: Counters) {
+    say::number(rt, c.errors as u64);
+    say::number(rt, c.delimiters as u64);
+    say::number(rt, c.assembled as u64);
+    say::number(rt, c.fragments as u64);
 }
 
-fn say_check(octets: &[u8]) {
-    say::octets(crc::fcs(crc::over(crc::ALL_ONES, octets)));
+fn say_check(rt: HostRuntime, octets: &[u8]) {
+    say::octets(rt, crc::fcs(crc::over(crc::ALL_ONES, octets)));
 }
 
 // Where the express body begins, as the call for C tells it: a program cannot see where a slice lies.
@@ -83,38 +83,39 @@ fn start_of_body(mframe: &[u8]) -> u32 {
     part[0]
 }
 
-fn say_body(mframe: &[u8]) {
+fn say_body(rt: HostRuntime, mframe: &[u8]) {
     let body = express_body::express_body(mframe);
-    say::number(start_of_body(mframe) as u64);
-    say::number(body.len() as u64);
-    say_check(body);
+    say::number(rt, start_of_body(mframe) as u64);
+    say::number(rt, body.len() as u64);
+    say_check(rt, body);
 }
 
-fn receive_into(kept: Kept, mframe: &[u8], buffer: &mut [u8]) -> Kept {
+fn receive_into(rt: HostRuntime, kept: Kept, mframe: &[u8], buffer: &mut [u8]) -> Kept {
     let r = kept.record;
     let got = receive::receive(mframe, r, buffer);
     let answer = got.answer;
     let record = got.after;
     let counters = record.counters;
-    say_answer(answer);
-    say_record(record);
-    say_counters(counters);
-    say_check(buffer);
-    say_body(mframe);
+    say_answer(rt, answer);
+    say_record(rt, record);
+    say_counters(rt, counters);
+    say_check(rt, buffer);
+    say_body(rt, mframe);
     Kept {
         record,
         buffer: kept.buffer,
-        went: Went::answered(say::line_end()),
+        went: Went::answered(say::line_end(rt)),
     }
 }
 
-fn mframe(kept: Kept, q: Question, space: &mut [u8]) -> Kept {
+fn mframe(rt: HostRuntime, kept: Kept, q: Question, space: &mut [u8]) -> Kept {
     let mut octets = [0u8; 2048];
     let n = q.short(1);
-    if !read::part(&mut octets, 0, n) {
+    if !read::part(rt, &mut octets, 0, n) {
         return after(kept, Went::Broken);
     }
     receive_into(
+        rt,
         kept,
         read::front(&octets, n),
         read::front_mut(space, kept.buffer),
@@ -124,30 +125,28 @@ fn mframe(kept: Kept, q: Question, space: &mut [u8]) -> Kept {
 // The octets that the numbers of each kind of question take.
 const SIZES: [usize; 4] = [0, 32, 4, 3];
 
-fn question(kept: Kept, q: Question, space: &mut [u8]) -> Kept {
+fn question(rt: HostRuntime, kept: Kept, q: Question, space: &mut [u8]) -> Kept {
     match q.octet(0) {
         1 => record(kept, q),
         2 => buffer(kept, q, space),
-        _ => mframe(kept, q, space),
+        _ => mframe(rt, kept, q, space),
     }
 }
 
-// A proved loop has to end, and nothing says that the input does: it counts its turns down from more than any input has.
-fn main() {
+// A proved loop has to end, and nothing says that the input does: it has more turns than any input.
+fn main(rt: HostRuntime) {
     let mut space = [0u8; 2048];
     let mut kept = Kept {
         record: Record::fresh(),
         buffer: 0,
-        went: Went::start(),
+        went: Went::start(rt),
     };
-    let mut turns = u32::MAX;
-    while turns > 0 {
+    for _ in 0..u32::MAX {
         let went = kept.went;
-        let q = went.next(b"test_receive", &SIZES);
+        let q = went.next(rt, b"test_receive", &SIZES);
         if !q.asked {
             return;
         }
-        kept = question(kept, q, &mut space);
-        turns -= 1;
+        kept = question(rt, kept, q, &mut space);
     }
 }

@@ -23,56 +23,61 @@ fn after(kept: Kept, went: Went) -> Kept {
 }
 
 // The answer, and the FCS of all of the buffer.
-fn say_answer(answer: Answer, out: &[u8]) {
+fn say_answer(rt: HostRuntime, answer: Answer, out: &[u8]) {
     match answer {
         Answer::Wrote { length, done } => {
-            say::number(length as u64);
-            say::flag(done);
+            say::number(rt, length as u64);
+            say::flag(rt, done);
         }
         Answer::Refused(refusal) => {
-            say::text(b" refused");
-            say::number(refusal.number() as u64);
+            say::text(rt, b" refused");
+            say::number(rt, refusal.number() as u64);
         }
     }
-    say::octets(crc::fcs(crc::over(crc::ALL_ONES, out)));
+    say::octets(rt, crc::fcs(crc::over(crc::ALL_ONES, out)));
 }
 
-fn say_record(r: Record) {
+fn say_record(rt: HostRuntime, r: Record) {
     let next = r.next;
     let fragment = r.fragment;
-    say::flag(r.active);
-    say::flag(r.hold);
-    say::small(r.extra);
-    say::small(next.0);
-    say::number(r.length as u64);
-    say::number(r.sent as u64);
-    say::small(fragment.0);
+    say::flag(rt, r.active);
+    say::flag(rt, r.hold);
+    say::small(rt, r.extra);
+    say::small(rt, next.0);
+    say::number(rt, r.length as u64);
+    say::number(rt, r.sent as u64);
+    say::small(rt, fragment.0);
 }
 
 // The answer of a call that keeps no record, behind the call's name.
-fn answered(name: &[u8], answer: Answer, out: &[u8]) -> Went {
-    say::text(name);
-    say_answer(answer, out);
-    Went::answered(say::line_end())
+fn answered(rt: HostRuntime, name: &[u8], answer: Answer, out: &[u8]) -> Went {
+    say::text(rt, name);
+    say_answer(rt, answer, out);
+    Went::answered(say::line_end(rt))
 }
 
-fn express(q: Question) -> Went {
+fn express(rt: HostRuntime, q: Question) -> Went {
     let mut body = [0u8; 2048];
     let mut space = [0u8; 2048];
     let n = q.short(1);
     let room = q.short(3);
-    if !read::part(&mut body, 0, n) {
+    if !read::part(rt, &mut body, 0, n) {
         return Went::Broken;
     }
     let out = read::lent(&mut space, room, q.octet(5));
     if out.len() < room {
         return Went::Broken;
     }
-    answered(b"express", single::express(read::front(&body, n), out), out)
+    answered(
+        rt,
+        b"express",
+        single::express(read::front(&body, n), out),
+        out,
+    )
 }
 
 // A call that is given nothing but memory: verify or respond.
-fn order(q: Question, verify: bool) -> Went {
+fn order(rt: HostRuntime, q: Question, verify: bool) -> Went {
     let mut space = [0u8; 2048];
     let room = q.short(1);
     let out = read::lent(&mut space, room, q.octet(3));
@@ -80,9 +85,9 @@ fn order(q: Question, verify: bool) -> Went {
         return Went::Broken;
     }
     if verify {
-        return answered(b"verify", single::verify(out), out);
+        return answered(rt, b"verify", single::verify(out), out);
     }
-    answered(b"respond", single::respond(out), out)
+    answered(rt, b"respond", single::respond(out), out)
 }
 
 fn record(kept: Kept, q: Question) -> Kept {
@@ -101,9 +106,9 @@ fn record(kept: Kept, q: Question) -> Kept {
     }
 }
 
-fn body(kept: Kept, q: Question, space: &mut [u8; 2048]) -> Kept {
+fn body(rt: HostRuntime, kept: Kept, q: Question, space: &mut [u8; 2048]) -> Kept {
     let n = q.short(1);
-    if !read::part(space, 0, n) {
+    if !read::part(rt, space, 0, n) {
         return after(kept, Went::Broken);
     }
     Kept { body: n, ..kept }
@@ -113,7 +118,7 @@ fn ask_of(asked: u8, t: usize) -> Ask {
     if asked == 0 { Ask::None } else { Ask::At(t) }
 }
 
-fn preemptable(kept: Kept, q: Question, body: &[u8; 2048]) -> Kept {
+fn preemptable(rt: HostRuntime, kept: Kept, q: Question, body: &[u8; 2048]) -> Kept {
     let mut space = [0u8; 2048];
     let room = q.short(10);
     let out = read::lent(&mut space, room, q.octet(12));
@@ -125,13 +130,13 @@ fn preemptable(kept: Kept, q: Question, body: &[u8; 2048]) -> Kept {
     let sent = send::preemptable(r, read::front(body, n), ask_of(q.octet(1), q.long(2)), out);
     let answer = sent.answer;
     let record = sent.after;
-    say::text(b"preemptable");
-    say_answer(answer, out);
-    say_record(record);
+    say::text(rt, b"preemptable");
+    say_answer(rt, answer, out);
+    say_record(rt, record);
     Kept {
         record,
         body: n,
-        went: Went::answered(say::line_end()),
+        went: Went::answered(say::line_end(rt)),
     }
 }
 
@@ -146,34 +151,32 @@ fn settings(kept: Kept, q: Question) -> Kept {
 // The octets that the numbers of each kind of question take.
 const SIZES: [usize; 8] = [0, 6, 4, 4, 22, 3, 13, 4];
 
-fn question(kept: Kept, q: Question, space: &mut [u8; 2048]) -> Kept {
+fn question(rt: HostRuntime, kept: Kept, q: Question, space: &mut [u8; 2048]) -> Kept {
     match q.octet(0) {
-        1 => after(kept, express(q)),
-        2 => after(kept, order(q, true)),
-        3 => after(kept, order(q, false)),
+        1 => after(kept, express(rt, q)),
+        2 => after(kept, order(rt, q, true)),
+        3 => after(kept, order(rt, q, false)),
         4 => record(kept, q),
-        5 => body(kept, q, space),
-        6 => preemptable(kept, q, space),
+        5 => body(rt, kept, q, space),
+        6 => preemptable(rt, kept, q, space),
         _ => settings(kept, q),
     }
 }
 
-// A proved loop has to end, and nothing says that the input does: it counts its turns down from more than any input has.
-fn main() {
+// A proved loop has to end, and nothing says that the input does: it has more turns than any input.
+fn main(rt: HostRuntime) {
     let mut space = [0u8; 2048];
     let mut kept = Kept {
         record: Record::fresh(true, false, 0),
         body: 0,
-        went: Went::start(),
+        went: Went::start(rt),
     };
-    let mut turns = u32::MAX;
-    while turns > 0 {
+    for _ in 0..u32::MAX {
         let went = kept.went;
-        let q = went.next(b"test_send", &SIZES);
+        let q = went.next(rt, b"test_send", &SIZES);
         if !q.asked {
             return;
         }
-        kept = question(kept, q, &mut space);
-        turns -= 1;
+        kept = question(rt, kept, q, &mut space);
     }
 }

@@ -100,30 +100,30 @@ impl Tally {
     }
 }
 
-fn say_state(s: State) {
-    say::number(s.count as u64);
-    say::flag(s.more);
+fn say_state(rt: HostRuntime, s: State) {
+    say::number(rt, s.count as u64);
+    say::flag(rt, s.more);
 }
 
-fn say_record(r: Record) {
+fn say_record(rt: HostRuntime, r: Record) {
     let frame = r.frame;
     let fragment = r.fragment;
-    say::flag(r.assembling);
-    say::small(frame.0);
-    say::small(fragment.0);
-    say::number(r.kept as u64);
-    say::word(r.running as u64);
+    say::flag(rt, r.assembling);
+    say::small(rt, frame.0);
+    say::small(rt, fragment.0);
+    say::number(rt, r.kept as u64);
+    say::word(rt, r.running as u64);
 }
 
-fn say_counters(c: Counters) {
-    say::number(c.errors as u64);
-    say::number(c.delimiters as u64);
-    say::number(c.assembled as u64);
-    say::number(c.fragments as u64);
+fn say_counters(rt: HostRuntime, c: Counters) {
+    say::number(rt, c.errors as u64);
+    say::number(rt, c.delimiters as u64);
+    say::number(rt, c.assembled as u64);
+    say::number(rt, c.fragments as u64);
 }
 
-fn say_check(octets: &[u8]) {
-    say::octets(crc::fcs(crc::over(crc::ALL_ONES, octets)));
+fn say_check(rt: HostRuntime, octets: &[u8]) {
+    say::octets(rt, crc::fcs(crc::over(crc::ALL_ONES, octets)));
 }
 
 // How far the octets of a question came, a call for each.
@@ -156,30 +156,28 @@ fn give_all(kept: Kept, octets: &[u8], area: &mut [u8], buffer: &mut [u8]) -> Ru
         record,
         tally: Tally::NONE,
     };
-    let mut i = 0;
-    while i < octets.len() {
-        run = give(run, octets[i], area, buffer);
-        i += 1;
+    for octet in octets {
+        run = give(run, *octet, area, buffer);
     }
     run
 }
 
-fn say_tally(t: Tally) {
-    say::number(t.waited as u64);
-    say::number(t.short as u64);
-    say::number(t.unsound as u64);
+fn say_tally(rt: HostRuntime, t: Tally) {
+    say::number(rt, t.waited as u64);
+    say::number(rt, t.short as u64);
+    say::number(rt, t.unsound as u64);
 }
 
-fn take(kept: Kept, octets: &[u8], area: &mut [u8], buffer: &mut [u8]) -> Kept {
+fn take(rt: HostRuntime, kept: Kept, octets: &[u8], area: &mut [u8], buffer: &mut [u8]) -> Kept {
     let run = give_all(kept, octets, area, buffer);
     let state = run.state;
     let record = run.record;
     let tally = run.tally;
-    say::text(b"octets");
-    say_tally(tally);
-    say_state(state);
-    say_check(area);
-    let went = Went::answered(say::line_end());
+    say::text(rt, b"octets");
+    say_tally(rt, tally);
+    say_state(rt, state);
+    say_check(rt, area);
+    let went = Went::answered(say::line_end(rt));
     Kept {
         state,
         record,
@@ -188,13 +186,14 @@ fn take(kept: Kept, octets: &[u8], area: &mut [u8], buffer: &mut [u8]) -> Kept {
     }
 }
 
-fn octets(kept: Kept, q: Question, area: &mut [u8], buffer: &mut [u8]) -> Kept {
+fn octets(rt: HostRuntime, kept: Kept, q: Question, area: &mut [u8], buffer: &mut [u8]) -> Kept {
     let mut space = [0u8; 2048];
     let n = q.short(1);
-    if !read::part(&mut space, 0, n) {
+    if !read::part(rt, &mut space, 0, n) {
         return after(kept, Went::Broken);
     }
     take(
+        rt,
         kept,
         read::front(&space, n),
         read::front_mut(area, kept.area),
@@ -202,35 +201,35 @@ fn octets(kept: Kept, q: Question, area: &mut [u8], buffer: &mut [u8]) -> Kept {
     )
 }
 
-fn say_reply(reply: Reply) {
+fn say_reply(rt: HostRuntime, reply: Reply) {
     match reply {
         // No answer to an end.
-        Reply::Waits => say::text(b" waits"),
+        Reply::Waits => say::text(rt, b" waits"),
         Reply::Refused(refusal) => {
-            say::number(refusal.number() as u64);
-            say::number(0);
+            say::number(rt, refusal.number() as u64);
+            say::number(rt, 0);
         }
         Reply::Answered(answer) => {
-            say::number(answer.number() as u64);
-            say::number(answer.detail() as u64);
+            say::number(rt, answer.number() as u64);
+            say::number(rt, answer.detail() as u64);
         }
     }
 }
 
-fn end(kept: Kept, area: &mut [u8], buffer: &mut [u8]) -> Kept {
+fn end(rt: HostRuntime, kept: Kept, area: &mut [u8], buffer: &mut [u8]) -> Kept {
     let got = stream::stream(Given::End, kept.state, area, kept.record, buffer);
     let reply = got.reply;
     let state = got.state;
     let record = got.after;
     let counters = record.counters;
-    say::text(b"end");
-    say_reply(reply);
-    say_state(state);
-    say_record(record);
-    say_counters(counters);
-    say_check(area);
-    say_check(buffer);
-    let went = Went::answered(say::line_end());
+    say::text(rt, b"end");
+    say_reply(rt, reply);
+    say_state(rt, state);
+    say_record(rt, record);
+    say_counters(rt, counters);
+    say_check(rt, area);
+    say_check(rt, buffer);
+    let went = Went::answered(say::line_end(rt));
     Kept {
         state,
         record,
@@ -242,14 +241,21 @@ fn end(kept: Kept, area: &mut [u8], buffer: &mut [u8]) -> Kept {
 // The octets that the numbers of each kind of question take.
 const SIZES: [usize; 7] = [0, 32, 4, 4, 6, 3, 1];
 
-fn question(kept: Kept, q: Question, areas: &mut [u8], buffers: &mut [u8]) -> Kept {
+fn question(
+    rt: HostRuntime,
+    kept: Kept,
+    q: Question,
+    areas: &mut [u8],
+    buffers: &mut [u8],
+) -> Kept {
     match q.octet(0) {
         1 => record(kept, q),
         2 => buffer(kept, q, buffers),
         3 => area(kept, q, areas),
         4 => state(kept, q),
-        5 => octets(kept, q, areas, buffers),
+        5 => octets(rt, kept, q, areas, buffers),
         _ => end(
+            rt,
             kept,
             read::front_mut(areas, kept.area),
             read::front_mut(buffers, kept.buffer),
@@ -257,8 +263,8 @@ fn question(kept: Kept, q: Question, areas: &mut [u8], buffers: &mut [u8]) -> Ke
     }
 }
 
-// A proved loop has to end, and nothing says that the input does: it counts its turns down from more than any input has.
-fn main() {
+// A proved loop has to end, and nothing says that the input does: it has more turns than any input.
+fn main(rt: HostRuntime) {
     let mut areas = [0u8; 2048];
     let mut buffers = [0u8; 2048];
     let mut kept = Kept {
@@ -266,16 +272,14 @@ fn main() {
         record: Record::fresh(),
         area: 0,
         buffer: 0,
-        went: Went::start(),
+        went: Went::start(rt),
     };
-    let mut turns = u32::MAX;
-    while turns > 0 {
+    for _ in 0..u32::MAX {
         let went = kept.went;
-        let q = went.next(b"test_stream", &SIZES);
+        let q = went.next(rt, b"test_stream", &SIZES);
         if !q.asked {
             return;
         }
-        kept = question(kept, q, &mut areas, &mut buffers);
-        turns -= 1;
+        kept = question(rt, kept, q, &mut areas, &mut buffers);
     }
 }

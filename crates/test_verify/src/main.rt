@@ -33,29 +33,29 @@ fn number_of(phase: Phase) -> u8 {
     }
 }
 
-fn say_answer(answer: Answer) {
+fn say_answer(rt: HostRuntime, answer: Answer) {
     match answer {
         Answer::Taken(ordered) => {
             if ordered {
-                say::text(b"1");
+                say::text(rt, b"1");
             } else {
-                say::text(b"0");
+                say::text(rt, b"0");
             }
         }
         Answer::Refused(why) => {
-            say::text(b"refused");
-            say::number(why.number() as u64);
+            say::text(rt, b"refused");
+            say::number(rt, why.number() as u64);
         }
     }
 }
 
-fn say_record(r: Record) {
+fn say_record(rt: HostRuntime, r: Record) {
     let phase = r.phase;
-    say::small(number_of(phase));
-    say::small(r.attempt);
-    say::small(r.left);
-    say::flag(r.owed);
-    say::small(r.wait);
+    say::small(rt, number_of(phase));
+    say::small(rt, r.attempt);
+    say::small(rt, r.left);
+    say::flag(rt, r.owed);
+    say::small(rt, r.wait);
 }
 
 fn after(kept: Kept, went: Went) -> Kept {
@@ -79,7 +79,7 @@ fn record(kept: Kept, q: Question) -> Kept {
     }
 }
 
-fn event(kept: Kept, q: Question) -> Kept {
+fn event(rt: HostRuntime, kept: Kept, q: Question) -> Kept {
     let number = q.octet(1) as u32;
     if !event_words::is_event(number) {
         return after(kept, Went::Broken);
@@ -88,38 +88,36 @@ fn event(kept: Kept, q: Question) -> Kept {
     let stepped = verify::step(r, event_words::event_of(number, q.word(2)));
     let answer = stepped.answer;
     let record = stepped.after;
-    say_answer(answer);
-    say_record(record);
+    say_answer(rt, answer);
+    say_record(rt, record);
     Kept {
         record,
-        went: Went::answered(say::line_end()),
+        went: Went::answered(say::line_end(rt)),
     }
 }
 
 // The octets that the numbers of each kind of question take.
 const SIZES: [usize; 3] = [0, 6, 6];
 
-fn question(kept: Kept, q: Question) -> Kept {
+fn question(rt: HostRuntime, kept: Kept, q: Question) -> Kept {
     match q.octet(0) {
         1 => record(kept, q),
-        _ => event(kept, q),
+        _ => event(rt, kept, q),
     }
 }
 
-// A proved loop has to end, and nothing says that the input does: it counts its turns down from more than any input has.
-fn main() {
+// A proved loop has to end, and nothing says that the input does: it has more turns than any input.
+fn main(rt: HostRuntime) {
     let mut kept = Kept {
         record: Record::fresh(),
-        went: Went::start(),
+        went: Went::start(rt),
     };
-    let mut turns = u32::MAX;
-    while turns > 0 {
+    for _ in 0..u32::MAX {
         let went = kept.went;
-        let q = went.next(b"test_verify", &SIZES);
+        let q = went.next(rt, b"test_verify", &SIZES);
         if !q.asked {
             return;
         }
-        kept = question(kept, q);
-        turns -= 1;
+        kept = question(rt, kept, q);
     }
 }

@@ -9,29 +9,29 @@ use sender_record::Record;
 use test_questions::say;
 use test_questions::went::Went;
 
-fn say_length(what: &[u8], answer: Answer) {
-    say::text(what);
+fn say_length(rt: HostRuntime, what: &[u8], answer: Answer) {
+    say::text(rt, what);
     match answer {
-        Answer::Wrote { length, done: _ } => say::number(length as u64),
-        Answer::Refused(_) => say::text(b" refused"),
+        Answer::Wrote { length, done: _ } => say::number(rt, length as u64),
+        Answer::Refused(_) => say::text(rt, b" refused"),
     }
-    say::line_end();
+    say::line_end(rt);
 }
 
 // The next mFrame of the photograph, and the record after it.
-fn photograph(what: &[u8], record: Record, ask: Ask) -> Record {
+fn photograph(rt: HostRuntime, what: &[u8], record: Record, ask: Ask) -> Record {
     let body = [0u8; 1518];
     let mut out = [0u8; 1530];
     let sent = send::preemptable(record, &body, ask, &mut out);
     let answer = sent.answer;
-    say_length(what, answer);
+    say_length(rt, what, answer);
     sent.after
 }
 
-fn press() {
+fn press(rt: HostRuntime) {
     let body = [0u8; 60];
     let mut out = [0u8; 1530];
-    say_length(b"press", single::express(&body, &mut out));
+    say_length(rt, b"press", single::express(&body, &mut out));
 }
 
 // The octets of an mFrame behind the ask: what is left of the frame, or the part up to the cut and its check octets.
@@ -53,10 +53,8 @@ fn greater(a: usize, b: usize) -> usize {
 // The most over every moment of a frame.
 fn most_of(frame: usize) -> usize {
     let mut most = 0;
-    let mut asked = 0;
-    while asked < frame {
+    for asked in 0..frame {
         most = greater(most, behind(frame, asked));
-        asked += 1;
     }
     most
 }
@@ -64,30 +62,30 @@ fn most_of(frame: usize) -> usize {
 // The most over every frame up to one of so many octets.
 fn most(longest: usize) -> usize {
     let mut most = 0;
-    let mut frame = 64;
-    while frame < longest {
+    for frame in 64..longest {
         most = greater(most, most_of(frame));
-        frame += 1;
     }
     greater(most, most_of(longest))
 }
 
 // The photograph, whole, as a port that isn't active sends it; then asked at its first octet to make way, the press, and the rest; then the
 // most octets behind an ask. An output that did not take a line does not take the last one's end either, so that nobody else has to ask.
-fn main() {
+fn main(rt: HostRuntime) {
     photograph(
+        rt,
         b"photograph whole",
         Record::fresh(false, false, 0),
         Ask::None,
     );
     let cut = photograph(
+        rt,
         b"photograph first",
         Record::fresh(true, false, 0),
         Ask::At(0),
     );
-    press();
-    photograph(b"photograph rest", cut, Ask::None);
-    say::text(b"longest wait cut");
-    say::number(most(1522) as u64);
-    Went::answered(say::line_end()).goes_on(b"test_waits");
+    press(rt);
+    photograph(rt, b"photograph rest", cut, Ask::None);
+    say::text(rt, b"longest wait cut");
+    say::number(rt, most(1522) as u64);
+    Went::answered(say::line_end(rt)).goes_on(rt, b"test_waits");
 }

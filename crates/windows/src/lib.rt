@@ -4,6 +4,8 @@
 
 ghost use Rattle.std.specs.Prelude.{◌+◌, ◌≤◌, length};
 
+use std::io::{Read, Write};
+
 // The octets of the longest record, one of a capture, with its header: where so many are in the window, or the input has ended, a record of a
 // trace or of a capture, and a capture's header, read as in the whole input (the theorems of captures, Window).
 pub const LONGEST: usize = 1616;
@@ -41,7 +43,7 @@ pub struct Filled {
 
 // One more read behind what is left in the window, from one place up to another, which goes to its front. Nobody reads on while so many
 // octets are left as the longest record has.
-pub fn read_on(fd: i32, window: &mut [u8], from: usize, to: usize) -> Filled
+pub fn read_on<R: Read>(input: &mut R, window: &mut [u8], from: usize, to: usize) -> Filled
     ensures { result.to ≤ length window.old }
 {
     let mut spare = [0u8; LONGEST];
@@ -49,12 +51,17 @@ pub fn read_on(fd: i32, window: &mut [u8], from: usize, to: usize) -> Filled
     let left = rest.len();
     octets::copy_into(rest, &mut spare, 0);
     octets::copy_into(front(&spare, left), window, 0);
-    let got = libc::read(fd, &mut window[left..]);
-    let more = io::count(got, &window[left..]);
-    Filled {
-        to: left + more,
-        ended: more == 0,
-        failed: got < 0,
+    match input.read(&mut window[left..]) {
+        Ok(more) => Filled {
+            to: left + more,
+            ended: more == 0,
+            failed: false,
+        },
+        Err(_) => Filled {
+            to: left,
+            ended: true,
+            failed: true,
+        },
     }
 }
 
@@ -65,7 +72,7 @@ pub struct Place {
     pub free: bool,
 }
 
-pub fn place_for(fd: i32, out: &[u8], waiting: usize, room: usize) -> Place
+pub fn place_for<W: Write>(output: &mut W, out: &[u8], waiting: usize, room: usize) -> Place
     requires { room ≤ length out.now }
     ensures { result.at + room ≤ length out.now }
 {
@@ -77,6 +84,6 @@ pub fn place_for(fd: i32, out: &[u8], waiting: usize, room: usize) -> Place
     }
     Place {
         at: 0,
-        free: io::write_all(fd, front(out, waiting)),
+        free: output.write_all(front(out, waiting)).is_ok(),
     }
 }

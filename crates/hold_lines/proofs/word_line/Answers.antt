@@ -1,0 +1,16 @@
+-- `hold_lines::word_line` meets its contract.
+use Rattle.rules.proofs.Tests.{tests}
+use Rattle.hold_lines.specs.HoldLines.{word_line}
+use Rattle.hold_lines.proofs.word_line.Goals as goal
+
+pub returns-then-operation-eq-HOLD : goal.returns-then-operation-eq-HOLD
+unfolding word_line
+returns-then-operation-eq-HOLD c =
+    let t = c.if-operation-eq-HOLD.true in
+    simp tests c.words.ensures
+
+pub returns : goal.returns
+unfolding word_line
+returns c =
+    let t = c.if-operation-eq-HOLD.false in
+    simp tests c.words-2.ensures
