@@ -43,8 +43,8 @@ capture: ## writes two captures of the sample, for Wireshark and for keeping, wi
 test: ## the gate: proves and tests everything, from nothing
 	@$(project)/scripts/gate
 
-prove: ## the edit loop: proves what changed, and runs the programs
-	@cd $(project) && scripts/need-kit && rt check
+prove: ## the edit loop: proves what changed
+	@cd $(project) && scripts/need-kit && rt all check
 
 vectors: ## makes the stored vectors, traces, schedules and captures anew
 	@cd $(project) && for maker in tests/reference/vectors_*.py tests/reference/traces.py tests/reference/schedules.py tests/reference/captures_files.py; do python3 "$$maker" || exit 1; done

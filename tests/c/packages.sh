@@ -17,9 +17,8 @@ compiles() {
     printf '#include <stdio.h>\nint main(void) { return puts("") == EOF; }\n' | "$@" - -o /dev/null
 }
 
-# The folder of the Rattle kit, from where rt stands, and its tools for this machine.
-kit=$(dirname "$(dirname "$(readlink -f "$(command -v rt)")")")
-tools=$kit/on/$(uname -m)/toolchain/bin
+# The tools of the Rattle kit, found from where rt stands.
+tools=$(dirname "$(dirname "$(readlink -f "$(command -v rt)")")")/toolchain/bin
 
 # quietly COMMAND..: runs it, and shows what it wrote only where it fails.
 quietly() {

@@ -1,0 +1,18 @@
+// The calls on captures.
+ghost use Rattle.std.specs.Prelude.{length};
+ghost use Rattle.pcap.specs.Captures.{write_of, read_of};
+ghost use Rattle.seatport.specs.Capturing.{Captured};
+
+#[unsafe(no_mangle)]
+pub extern "C" fn seatport_capture_write(trace: &[u8], capture: &mut [u8], value: &mut u64) -> u32
+    ensures { Captured (write_of trace.now (length capture.old)) capture.old result value.new capture.new }
+{
+    seatport::seatport_capture_write(trace, capture, value)
+}
+
+#[unsafe(no_mangle)]
+pub extern "C" fn seatport_capture_read(capture: &[u8], trace: &mut [u8], value: &mut u64) -> u32
+    ensures { Captured (read_of capture.now (length trace.old)) trace.old result value.new trace.new }
+{
+    seatport::seatport_capture_read(capture, trace, value)
+}
