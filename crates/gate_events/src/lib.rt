@@ -9,7 +9,7 @@ ghost use Rattle.gate_events.specs.Events.{sum_of, event_at, events_from};
 use gate_entries::SIZE;
 
 // What a list comes to.
-#[derive(Drop)]
+#[derive(Clone, Copy)]
 pub struct Total {
     // How many events it has.
     pub events: u32,
@@ -33,8 +33,8 @@ fn counted(operation: u32) -> u32
 // What a list of n entries comes to.
 pub fn totals(list: &[u8], n: u32) -> Total
     requires { of_octets list.now ≡ good n }
-    ensures events_value { result.events ≡ length (events_from 0 (entries_from n list.now 0)) }
-    ensures cycle_value { result.cycle ≡ sum_of (entries_from n list.now 0) }
+    ensures events { result.events ≡ length (events_from 0 (entries_from n list.now 0)) }
+    ensures cycle { result.cycle ≡ sum_of (entries_from n list.now 0) }
 {
     let mut i = 0u32;
     let mut events = 0u32;
@@ -51,8 +51,8 @@ pub fn totals(list: &[u8], n: u32) -> Total
 // The event of an operation, where it has one, at a place of lent memory; the place behind it.
 fn put_event(time: u64, operation: u32, events: &mut [[u64; 2]], at: usize) -> usize
     requires { (at ≤ most) × (at + length (event_at 0 operation) ≤ length events.old) }
-    ensures value { result ≡ at + length (event_at time operation) }
-    ensures events_after { events.new ≡ laid events.old at (event_at time operation) }
+    ensures place { result ≡ at + length (event_at time operation) }
+    ensures output { events.new ≡ laid events.old at (event_at time operation) }
 {
     if operation == 0 {
         return at;
@@ -63,8 +63,8 @@ fn put_event(time: u64, operation: u32, events: &mut [[u64; 2]], at: usize) -> u
 
 // The events of a list of n entries.
 pub fn put_events(list: &[u8], n: u32, events: &mut [[u64; 2]])
-    requires list_value { of_octets list.now ≡ good n }
-    requires list_in_bounds { length (events_from 0 (entries_from n list.now 0)) ≤ length events.old }
+    requires judged { of_octets list.now ≡ good n }
+    requires room { length (events_from 0 (entries_from n list.now 0)) ≤ length events.old }
     ensures { events.new ≡ over (events_from 0 (entries_from n list.now 0)) events.old }
 {
     let mut i = 0u32;

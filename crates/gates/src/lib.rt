@@ -10,7 +10,7 @@ use gate_entries::SIZE;
 use gate_lists::Answer;
 
 // What listing the events answers, and the length of the cycle in nanoseconds, 0 where nothing is listed.
-#[derive(Drop)]
+#[derive(Clone, Copy)]
 pub struct Listed {
     pub answer: Answer,
     pub cycle: u64,
@@ -50,7 +50,7 @@ pub fn write_list(entries: &[[u32; 3]], list: &mut [u8]) -> Answer
 // The holds and releases of a list: of each its time in nanoseconds from the cycle's start, and 1 for hold or 2 for release.
 pub fn list_events(list: &[u8], events: &mut [[u64; 2]]) -> Listed
     ensures met { Met (events_of list.now (length events.old)) events.old (said result.answer) events.new }
-    ensures cycle_value { result.cycle ≡ cycle_of (said result.answer) list.now }
+    ensures cycle { result.cycle ≡ cycle_of (said result.answer) list.now }
 {
     let judged = gate_lists::of_octets(list);
     let Answer::Good(n) = judged else {
