@@ -7,11 +7,13 @@ use mframe::BODY_MOST;
 use pcap_fields::Order;
 use pcap_records::{FILE_HEADER, Opened};
 use receiver_record::Record;
+use std::fs;
+use std::io::{Read, Write};
 use trace::{Cursor, LIMIT};
 use windows::{LONGEST, front, part};
 
 // What stands next in the input.
-#[derive(Drop)]
+#[derive(Clone, Copy)]
 enum Next {
     // A capture's header.
     FileHeader,
@@ -22,7 +24,7 @@ enum Next {
 
 // Where the copying stands: the receiver's record, by which a capture for eyes is made, what comes next, its number if it is a record, the part of
 // the window not yet read, whether nothing more comes, how many octets wait to be written, what is wrong, and whether anything is left to do.
-#[derive(Drop)]
+#[derive(Clone, Copy)]
 struct Standing {
     receiver: Record,
     next: Next,
@@ -36,7 +38,7 @@ struct Standing {
 }
 
 // What was found at the window's front.
-#[derive(Drop)]
+#[derive(Clone, Copy)]
 enum Found {
     // Too little to tell.
     Part,
@@ -106,7 +108,7 @@ fn stop(s: Standing, trouble: Trouble) -> Standing {
 }
 
 // One more read. Where it fails, what was read before is not made into anything.
-fn read_on(s: Standing, input: i32, window: &mut [u8]) -> Standing {
+fn read_on<R: Read>(s: Standing, input: &mut R, window: &mut [u8]) -> Standing {
     let filled = windows::read_on(input, window, s.from, s.to);
     if filled.failed {
         return stop(s, Trouble::Unread);
@@ -129,7 +131,7 @@ fn open(s: Standing, order: Order) -> Standing {
 }
 
 // What a record makes: the receiver's record after it, which stays as it is where nothing is made for eyes, and the place behind it.
-#[derive(Drop)]
+#[derive(Clone, Copy)]
 struct Put {
     receiver: Record,
     end: usize,
@@ -174,7 +176,7 @@ fn put_record(
 fn copy_record(
     s: Standing,
     made: File,
-    output: i32,
+    output: &mut fs::File,
     content: &[u8],
     end: usize,
     assembly: &mut [u8; BODY_MOST],
@@ -197,18 +199,18 @@ fn copy_record(
 }
 
 // The end of the input: what waits is written, and all of it reaches the disk.
-fn finish(s: Standing, output: i32, out: &[u8]) -> Standing {
-    if io::write_all(output, front(out, s.waiting)) && libc::fsync(output) == 0 {
+fn finish(s: Standing, output: &mut fs::File, out: &[u8]) -> Standing {
+    if output.write_all(front(out, s.waiting)).is_ok() && output.sync_all().is_ok() {
         return stop(s, Trouble::None);
     }
     stop(s, Trouble::Unwritten)
 }
 
-fn turn(
+fn turn<R: Read>(
     s: Standing,
     made: File,
-    input: i32,
-    output: i32,
+    input: &mut R,
+    output: &mut fs::File,
     window: &mut [u8; 65536],
     assembly: &mut [u8; BODY_MOST],
     out: &mut [u8; 65536],
@@ -254,20 +256,18 @@ fn begin(made: File, out: &mut [u8; 65536]) -> Standing {
     }
 }
 
-// The turns, and what was wrong. A proved loop has to end, and nothing says that the input does: it counts its turns down from more than any
-// input has.
-pub(crate) fn copy_all(made: File, input: i32, output: i32) -> Trouble {
-    let mut window = io::large_buffer();
+// The turns, and what was wrong. A proved loop has to end, and nothing says that the input does: it has more turns than any
+// input.
+pub(crate) fn copy_all<R: Read>(made: File, input: &mut R, output: &mut fs::File) -> Trouble {
+    let mut window = [0u8; 65536];
     let mut assembly = [0u8; BODY_MOST];
-    let mut out = io::large_buffer();
+    let mut out = [0u8; 65536];
     let mut s = begin(made, &mut out);
-    let mut turns = u64::MAX;
-    while turns > 0 {
+    for _ in 0..u64::MAX {
         s = turn(s, made, input, output, &mut window, &mut assembly, &mut out);
         if !s.going {
             return s.trouble;
         }
-        turns -= 1;
     }
     Trouble::Unread
 }

@@ -1,10 +1,15 @@
 // Names, and what stands at them.
 ghost use Rattle.std.specs.Prelude.{◌<◌, length};
 
+use std::fs::{File, OpenOptions};
+use std::io::{Error, ErrorKind, Seek, SeekFrom};
+use std::{fs, str};
 use windows::front;
 
-// The last place of a path as C takes it, where a 0 ends it.
-const LAST: usize = libc::PATH_MAX - 1;
+// A name as text. One that is no text comes out empty, and no file is named so.
+pub(crate) fn text_of(name: &[u8]) -> &str {
+    str::from_utf8(name).unwrap_or("")
+}
 
 // Whether two words are the same.
 pub(crate) fn same(a: &[u8], b: &[u8]) -> bool {
@@ -21,55 +26,55 @@ pub(crate) fn same(a: &[u8], b: &[u8]) -> bool {
     true
 }
 
-// Whether a link stands at a name: only a link can be read as one.
-fn is_link(name: &[u8]) -> bool {
-    let mut path = io::buffer();
-    octets::copy_into(front(name, LAST), &mut path, 0);
-    path[LAST] = 0;
-    let mut beginning = [0u8; 1];
-    libc::readlink(&path, &mut beginning) >= 0
+// Whether a link stands at a name.
+fn is_link(rt: HostRuntime, name: &str) -> bool {
+    match fs::symlink_metadata(&rt, name) {
+        Ok(found) => found.is_symlink(),
+        Err(_) => false,
+    }
 }
 
 // Whether an open file is a regular one: it can be flushed to a disk, which is so of a disk itself as well, and it can grow, which is not.
-fn is_regular(fd: i32) -> bool {
-    libc::fsync(fd) == 0 && libc::lseek(fd, 1, libc::SEEK_END) > 0
+fn is_regular(file: &mut File) -> bool {
+    file.sync_all().is_ok() && file.seek(SeekFrom::End(1)).is_ok_and(|end| end > 0)
 }
 
 // Whether nothing stands at a name that could not be opened, by what the system says of it: there is no such file, a file where the name has a
 // folder, or the name is longer than any.
-fn is_nothing(error: i32) -> bool {
-    error == libc::ENOENT || error == libc::ENOTDIR || error == libc::ENAMETOOLONG
+fn is_nothing(error: &Error) -> bool {
+    matches!(
+        error.kind(),
+        ErrorKind::NotFound | ErrorKind::NotADirectory | ErrorKind::InvalidFilename
+    )
 }
 
 // Whether a name can be given to a new file: nothing stands there, or a regular file that may be written.
-pub(crate) fn is_free(name: &[u8]) -> bool {
-    if is_link(name) {
+pub(crate) fn is_free(rt: HostRuntime, name: &str) -> bool {
+    if is_link(rt, name) {
         return false;
     }
-    let fd = os::open_update(name);
-    if fd < 0 {
-        return is_nothing(os::errno());
+    match OpenOptions::new().read(true).write(true).open(&rt, name) {
+        Ok(mut file) => is_regular(&mut file),
+        Err(error) => is_nothing(&error),
     }
-    let regular = is_regular(fd);
-    libc::close(fd);
-    regular
 }
 
-// Makes a new file, named with the first digit behind the name's other octets that is free. Answers its descriptor, or -1.
-pub(crate) fn new_file(name: &mut [u8], last: usize) -> i32
+// Makes a new file, named with the first digit behind the name's other octets that is free.
+pub(crate) fn new_file(rt: HostRuntime, name: &mut [u8], last: usize) -> Option<File>
     requires { last < length name.old }
 {
-    let mut digit = b'0';
-    while digit <= b'9' {
+    for digit in b'0'..=b'9' {
         name[last] = digit;
-        let fd = os::create(front(name, last + 1));
-        if fd >= 0 {
-            return fd;
+        let path = text_of(front(name, last + 1));
+        match OpenOptions::new()
+            .write(true)
+            .create_new(true)
+            .open(&rt, path)
+        {
+            Ok(file) => return Some(file),
+            Err(error) if error.kind() == ErrorKind::AlreadyExists => {}
+            Err(_) => return None,
         }
-        if os::errno() != libc::EEXIST {
-            return -1;
-        }
-        digit += 1;
     }
-    -1
+    None
 }

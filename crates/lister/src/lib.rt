@@ -19,7 +19,7 @@ const LINE: usize = 88;
 
 // Where the listing stands: the receiving record, the next record's number, the part of the window not yet read, whether nothing more comes,
 // how many octets of text wait to be written, why the trace is listed no further, and whether anything is left to do.
-#[derive(Drop)]
+#[derive(Clone, Copy)]
 struct Standing {
     record: Record,
     number: u64,
@@ -55,7 +55,7 @@ fn refill(rt: HostRuntime, s: Standing, window: &mut [u8]) -> Standing {
 }
 
 // What stands at the window's front.
-#[derive(Drop)]
+#[derive(Clone, Copy)]
 enum Found {
     // Too little to tell.
     Part,

@@ -3,7 +3,7 @@ use std::io::Print;
 use trace::Refusal;
 
 // Why a trace is listed no further.
-#[derive(Drop)]
+#[derive(Clone, Copy)]
 pub(crate) enum Trouble {
     None,
     // The input could not be read.

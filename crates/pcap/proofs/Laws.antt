@@ -25,33 +25,49 @@ Other a = OneOf (1 ∷ 2 ∷ 3 ∷ []) (tag_of answer.the_type a)
 -- with xs to be written over out, for which there is so much room
 module _ (xs out : List ℕ) (room : ℕ) where
   -- what is not good is answered so, and nothing is written
-  pub met_refused : (a : Answer) (s : Said) → said a ≡ s → Other a → Met (outcome s xs room) out (said a) out
-  met_refused a s e o = subst (λ (x : Said). Met (outcome x xs room) out (said a) out) e (by_answer a o) where
+  pub refused_in_room : (a : Answer) (s : Said) → said a ≡ s → Other a → Met (outcome s xs room) out (said a) out
+  refused_in_room a s e o = subst (λ (x : Said). Met (outcome x xs room) out (said a) out) e (by_answer a o) where
     by_answer : (a : Answer) → Other a → Met (outcome (said a) xs room) out (said a) out
     by_answer (Good n) o = absurd (miss (1 ∷ 2 ∷ 3 ∷ []) 0 tt o)
     by_answer (Trace why k) o = record { answer = refl; output = refl }
     by_answer (Capture why k) o = record { answer = refl; output = refl }
     by_answer (Short n) o = record { answer = refl; output = refl }
 
-  pub met_short : (n k : ℕ) (s : Said) → s ≡ good n → k ≡ length xs → k < numbers → room < length xs → Met (outcome s xs room) out (short k) out
-  met_short n k s e l b h =
+  pub short_in_room : (n k : ℕ) (s : Said) → s ≡ good n → k ≡ length xs → k < numbers → room < length xs → Met (outcome s xs room) out (short k) out
+  short_in_room n k s e l b h =
       let fits : length xs < numbers = omega arith in
       let o : outcome s xs room ≡ record { answer = short (length xs); output = [] } = ap (λ (x : Said). outcome x xs room) e ∙ simp tests in
       subst (λ (p : Outcome). Met p out (short k) out) (sym o) (record { answer = ap short l; output = refl })
 
   -- more octets than a number has room for are never lent
-  pub met_beyond : (n : ℕ) (s : Said) → s ≡ good n → numbers ≤ length xs → room < numbers → Met (outcome s xs room) out (short (numbers - 1)) out
-  met_beyond n s e b h =
+  pub beyond_in_room : (n : ℕ) (s : Said) → s ≡ good n → numbers ≤ length xs → room < numbers → Met (outcome s xs room) out (short (numbers - 1)) out
+  beyond_in_room n s e b h =
       let less : room < length xs = omega arith in
       let o : outcome s xs room ≡ record { answer = short (numbers - 1); output = [] } = ap (λ (x : Said). outcome x xs room) e ∙ simp tests in
       subst (λ (p : Outcome). Met p out (short (numbers - 1)) out) (sym o) (record { answer = refl; output = refl })
 
-  pub met_good : (n k : ℕ) (s : Said) {out' : List ℕ} → s ≡ good n → k ≡ length xs → length xs ≤ room → out' ≡ over xs out
+  pub good_in_room : (n k : ℕ) (s : Said) {out' : List ℕ} → s ≡ good n → k ≡ length xs → length xs ≤ room → out' ≡ over xs out
       → Met (outcome s xs room) out (good k) out'
-  met_good n k s {out'} e l h w =
+  good_in_room n k s {out'} e l h w =
       let o : outcome s xs room ≡ record { answer = good (length xs); output = xs } = ap (λ (x : Said). outcome x xs room) e ∙ simp tests in
       subst (λ (p : Outcome). Met p out (good k) out') (sym o) (record { answer = ap good l; output = w })
 
+-- and in room for just what out has
+module _ (xs out : List ℕ) where
+  pub met_refused : (a : Answer) (s : Said) → said a ≡ s → Other a → Met (outcome s xs (length out)) out (said a) out
+  met_refused = refused_in_room xs out (length out)
+
+  pub met_short : (n k : ℕ) (s : Said) → s ≡ good n → k ≡ length xs → k < numbers → length out < length xs → Met (outcome s xs (length out)) out (short k) out
+  met_short = short_in_room xs out (length out)
+
+  pub met_beyond : (n : ℕ) (s : Said) → s ≡ good n → numbers ≤ length xs → length out < numbers → Met (outcome s xs (length out)) out (short (numbers - 1)) out
+  met_beyond = beyond_in_room xs out (length out)
+
+  pub met_good : (n k : ℕ) (s : Said) {out' : List ℕ} → s ≡ good n → k ≡ length xs → length xs ≤ length out → out' ≡ over xs out
+      → Met (outcome s xs (length out)) out (good k) out'
+  met_good = good_in_room xs out (length out)
+
+module _ (xs out : List ℕ) (room : ℕ) where
   -- the answer tells whether anything is written
   abbrev Answers : Answer → Said → Type 0
   Answers a s = said a ≡ (outcome s xs room).answer

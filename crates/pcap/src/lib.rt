@@ -38,9 +38,9 @@ fn capture_length(length: usize, records: usize) -> Needed
     Needed::Octets(headers + length)
 }
 
-// What a call that writes the capture of a trace into so much room answers.
-pub fn answer_for(trace: &[u8], room: usize) -> Answer
-    ensures { said result ≡ (write_of trace.now room).answer }
+// The capture of a trace, at the front of the memory lent.
+pub fn write(trace: &[u8], capture: &mut [u8]) -> Answer
+    ensures { Met (write_of trace.now (length capture.old)) capture.old (said result) capture.new }
 {
     let judged = pcap_lists::of_trace(trace);
     let Answer::Good(records) = judged else {
@@ -50,22 +50,30 @@ pub fn answer_for(trace: &[u8], room: usize) -> Answer
     let Needed::Octets(octets) = size else {
         return Answer::Short(usize::MAX);
     };
-    if room < octets {
+    if capture.len() < octets {
         return Answer::Short(octets);
     }
+    pcap_contents::put_capture(trace, capture);
     Answer::Good(octets)
 }
 
-// The capture of a trace, at the front of the memory lent.
-pub fn write(trace: &[u8], capture: &mut [u8]) -> Answer
-    ensures { Met (write_of trace.now (length capture.old)) capture.old (said result) capture.new }
+// What a call that writes the capture of a trace into so much room answers: of `write` what it answers, and it writes nothing.
+pub fn answer_for(trace: &[u8], room: usize) -> Answer
+    ensures { said result ≡ (write_of trace.now room).answer }
 {
-    let answer = answer_for(trace, capture.len());
-    let Answer::Good(_) = answer else {
-        return answer;
+    let judged = pcap_lists::of_trace(trace);
+    let Answer::Good(records) = judged else {
+        return judged;
     };
-    pcap_contents::put_capture(trace, capture);
-    answer
+    match capture_length(trace.len(), records) {
+        Needed::Beyond => Answer::Short(usize::MAX),
+        Needed::Octets(octets) => {
+            if room < octets {
+                return Answer::Short(octets);
+            }
+            Answer::Good(octets)
+        }
+    }
 }
 
 // The trace of a capture whose fields are in this order.

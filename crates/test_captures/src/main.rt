@@ -27,12 +27,6 @@ fn read_back(rt: HostRuntime, given: &[u8], lent: &mut [u8]) -> Went {
     say_answer(rt, answer, lent)
 }
 
-fn show(rt: HostRuntime, given: &[u8], lent: &mut [u8]) -> Went {
-    let answer = eyes::write(given, lent);
-    say::text(rt, b"show");
-    say_answer(rt, answer, lent)
-}
-
 fn question(rt: HostRuntime, q: Question) -> Went {
     let mut given = [0u8; 8192];
     let mut space = [0u8; 8192];
@@ -47,13 +41,12 @@ fn question(rt: HostRuntime, q: Question) -> Went {
     }
     match q.octet(0) {
         1 => write(rt, read::front(&given, n), lent),
-        2 => read_back(rt, read::front(&given, n), lent),
-        _ => show(rt, read::front(&given, n), lent),
+        _ => read_back(rt, read::front(&given, n), lent),
     }
 }
 
 // The octets that the numbers of each kind of question take.
-const SIZES: [usize; 4] = [0, 6, 6, 6];
+const SIZES: [usize; 3] = [0, 6, 6];
 
 // A proved loop has to end, and nothing says that the input does: it has more turns than any input.
 fn main(rt: HostRuntime) {

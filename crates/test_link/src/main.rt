@@ -13,7 +13,7 @@ use test_questions::{read, say};
 
 // The state of an entry: the number drawn last, both ends, the body of the frame chosen last, what is counted, the mFrame that the turn wrote
 // (none: no octets), and whether its answer could be put out.
-#[derive(Drop)]
+#[derive(Clone, Copy)]
 struct Link {
     x: u32,
     sender: sender_record::Record,

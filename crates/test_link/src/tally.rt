@@ -1,7 +1,7 @@
 // What is counted on the link. The counters of a run this long fit; they go round like the port's own where they would not.
 use test_questions::say;
 
-#[derive(Drop)]
+#[derive(Clone, Copy)]
 pub(crate) struct Tally {
     pub sent: u32,
     pub whole: u32,

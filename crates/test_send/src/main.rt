@@ -11,7 +11,7 @@ use test_questions::went::Went;
 use test_questions::{read, say};
 
 // What is kept from question to question: the record, how many octets of the lent space are the body, and how the last one went.
-#[derive(Drop)]
+#[derive(Clone, Copy)]
 struct Kept {
     record: Record,
     body: usize,

@@ -12,7 +12,7 @@ use test_questions::{read, say};
 
 // What is kept from question to question: the state, the record, how many octets of the lent spaces are the area and the buffer, and how the last
 // one went.
-#[derive(Drop)]
+#[derive(Clone, Copy)]
 struct Kept {
     state: State,
     record: Record,
@@ -67,7 +67,7 @@ fn state(kept: Kept, q: Question) -> Kept {
 }
 
 // How many calls answered that they wait, how many 18 and how many 19. A question has too few octets for more than 32 bits.
-#[derive(Drop)]
+#[derive(Clone, Copy)]
 struct Tally {
     waited: u32,
     short: u32,
@@ -127,7 +127,7 @@ fn say_check(rt: HostRuntime, octets: &[u8]) {
 }
 
 // How far the octets of a question came, a call for each.
-#[derive(Drop)]
+#[derive(Clone, Copy)]
 struct Run {
     state: State,
     record: Record,

@@ -9,7 +9,7 @@ use verify_answers::Answer;
 use verify_record::{Phase, Record};
 
 // What is kept from question to question: the record, and how the last one went.
-#[derive(Drop)]
+#[derive(Clone, Copy)]
 struct Kept {
     record: Record,
     went: Went,

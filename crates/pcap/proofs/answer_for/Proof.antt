@@ -11,7 +11,7 @@ use Rattle.pcap_headers.specs.Headers.{capture_of}
 use Rattle.pcap_lists.specs.Lists.{said}
 use Rattle.pcap.specs.declared.Needed.{Needed}
 use Rattle.pcap.specs.Captures.{numbers, Tells}
-use Rattle.pcap.proofs.Laws.{met_refused, met_short, met_beyond, met_good}
+use Rattle.pcap.proofs.Laws.{refused_in_room, short_in_room, beyond_in_room, good_in_room}
 use Rattle.pcap.proofs.Lengths.{captured}
 use Rattle.pcap.proofs.answer_for.Statement.{statement}
 use Rattle.pcap.proofs.answer_for.Tie as tie
@@ -25,7 +25,7 @@ enum-known-judged c = search rules
 returns : tie.Need-returns
 returns c =
     let a = c.before.before.before.args in
-    (met_refused (capture_of (read_all a.trace.now).contents) [] a.room c.before.of-trace.result _ c.before.of-trace.ensures c.match.keys2).answer
+    (refused_in_room (capture_of (read_all a.trace.now).contents) [] a.room c.before.of-trace.result _ c.before.of-trace.ensures c.match.keys2).answer
 
 capture-length-requires : tie.Need-capture-length-requires
 capture-length-requires c κs =
@@ -50,7 +50,7 @@ returns-2 c =
     let n = c.before.before.before.before.judged.given.0.0 in
     let w = captured s n (λ k. omega (arith, c.before.before.before.before.before.before.before.shared-slice-known.given k)) g in
     let beyond : numbers ≤ 24 + length s + 12 * n = subst (λ (r : Needed). Tells r (24 + length s + 12 * n)) c.enum_told.given.1 c.before.before.capture-length.ensures in
-    (met_beyond (capture_of (read_all s).contents) [] a.room n _ g (omega (arith, beyond, w.octets)) (omega arith)).answer
+    (beyond_in_room (capture_of (read_all s).contents) [] a.room n _ g (omega (arith, beyond, w.octets)) (omega arith)).answer
 
 returns-3 : tie.Need-returns-3
 returns-3 c =
@@ -60,7 +60,7 @@ returns-3 c =
     let n = c.before.before.before.before.before.before.judged.given.0.0 in
     let w = captured s n (λ k. omega (arith, c.before.before.before.before.before.before.before.before.before.shared-slice-known.given k)) g in
     let t : _ ≡ 24 + length s + 12 * n = subst (λ (r : Needed). Tells r (24 + length s + 12 * n)) c.before.before.size.given.1 c.before.before.before.before.capture-length.ensures in
-    (met_short (capture_of (read_all s).contents) [] a.room n _ _ g (t ∙ sym w.octets) (omega arith) (omega (arith, t, w.octets, c.if1.true))).answer
+    (short_in_room (capture_of (read_all s).contents) [] a.room n _ _ g (t ∙ sym w.octets) (omega arith) (omega (arith, t, w.octets, c.if1.true))).answer
 
 returns-4 : tie.Need-returns-4
 returns-4 c =
@@ -70,7 +70,7 @@ returns-4 c =
     let n = c.before.before.before.before.before.before.judged.given.0.0 in
     let w = captured s n (λ k. omega (arith, c.before.before.before.before.before.before.before.before.before.shared-slice-known.given k)) g in
     let t : _ ≡ 24 + length s + 12 * n = subst (λ (r : Needed). Tells r (24 + length s + 12 * n)) c.before.before.size.given.1 c.before.before.before.before.capture-length.ensures in
-    (met_good (capture_of (read_all s).contents) [] a.room n _ _ g (t ∙ sym w.octets) (omega (arith, t, w.octets, c.if1.false)) refl).answer
+    (good_in_room (capture_of (read_all s).contents) [] a.room n _ _ g (t ∙ sym w.octets) (omega (arith, t, w.octets, c.if1.false)) refl).answer
 
 pub answer-for-spec : {M : Type 1} → statement M
 answer-for-spec =
