@@ -1,4 +1,4 @@
-"""Answers questions on document 02's request (vii), the captures, and on captures for eyes, in lines of text.
+"""Answers questions on document 02's request (vii), the captures, in lines of text.
 
 The questions are read back from their octets, so that what is stored is what was answered.
 """
@@ -17,8 +17,7 @@ def answer_one(reader):
     length, room, fill = reader.fields(layout.FIELDS)
     octets = reader.run(length, layout.MOST_OCTETS)
     memory = lent_memory(room, fill, layout.MOST_OCTETS)
-    # Each question is named as its call is.
-    answer = getattr(captures, layout.NAMES[kind])(octets, room)
+    answer = (captures.write if kind == layout.WRITE else captures.read)(octets, room)
     memory[:len(answer.written)] = answer.written
     return [f"{layout.NAMES[kind]} {answer.number} {answer.value} {digest(memory)}"]
 

@@ -1,4 +1,4 @@
-"""Makes the stored captures, traces and captures for eyes, and what mmpcap says of them: document 02, request (vii).
+"""Makes the stored captures and traces, and what mmpcap makes and says of them: document 02, request (vii).
 
     python3 tests/reference/captures_files.py            writes all files
     python3 tests/reference/captures_files.py --check    writes nothing, compares
@@ -6,8 +6,6 @@
 
 import sys
 
-import captures_mframes
-import mframe
 import mmpcap
 import stored
 import trace
@@ -73,21 +71,8 @@ def like_headers():
             b"\x55" * 7 + b"\xD5", bytes(range(256)), bytes(16), b"\xFF" * 24]
 
 
-def every_answer():
-    """All mFrames that captures for eyes are asked about, one after the other: every answer, where it matters."""
-    return [octets for mframes in captures_mframes.all_lists(Chance(SEED)) for octets in mframes]
-
-
-def far_apart():
-    """A photograph in three parts, with far more presses behind its start than anybody holds at a time."""
-    chance = Chance(SEED + 3)
-    presses = [mframe.express(chance.octets(mframe.GREATEST_BODY))] * 45
-    first, second, last = captures_mframes.frame(1, chance.octets(180))
-    return [first, *presses, second, *presses[:3], last]
-
-
 def good_traces():
-    """Traces that are written, read back from what was written, and shown, by name."""
+    """Traces that are written, and read back from what was written, by name."""
     return {
         "row": traces.row(),
         "empty": b"",
@@ -95,9 +80,6 @@ def good_traces():
         "lengths": trace.written(every_kind_of_length()),
         "like_headers": trace.written(like_headers()),
         "long": trace.written(some(LONG_RECORDS)),
-        "every_answer": trace.written(every_answer()),
-        "far_apart": trace.written(far_apart()),
-        "ends_in_assembly": trace.written(captures_mframes.frame(2, bytes(range(200)))[:2]),
     }
 
 
@@ -258,20 +240,19 @@ def file(name, ending, octets):
     return stored.StoredFile(f"tests/captures/{name}.{ending}", octets, is_text=ending == "said")
 
 
-def converted(word, name, octets, ending):
-    """What mmpcap makes of a file, or says of it."""
+def converted(word, name, octets, of_source, of_target):
+    """A file that is given to mmpcap, and what it makes of it or says of it."""
     output, sentence = mmpcap.made(word, octets)
-    return file(name, ending, output) if output is not None else file(name, "said", sentence.encode("ascii"))
+    made = file(name, of_target, output) if output is not None else file(name, "said", sentence.encode("ascii"))
+    return [file(name, of_source, octets), made]
 
 
 def files():
     made = []
     for name, octets in {**good_traces(), **refused_traces()}.items():
-        made += [file(name, "trace", octets), converted("write", name, octets, "pcap")]
-    # Of a trace that is refused the same is said whatever is to be made of it.
-    made += [converted("show", name, octets, "eyes.pcap") for name, octets in good_traces().items()]
+        made += converted("write", name, octets, "trace", "pcap")
     for name, octets in {**other_captures(), **refused_captures()}.items():
-        made += [file(name, "pcap", octets), converted("read", name, octets, "trace")]
+        made += converted("read", name, octets, "pcap", "trace")
     sample, _ = mmpcap.made("write", traces.row())
     return [*made, stored.StoredFile(SAMPLE, sample, is_text=False)]
 

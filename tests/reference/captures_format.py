@@ -1,13 +1,13 @@
-"""How the questions on document 02's request (vii), the captures, and on captures for eyes are laid out in octets.
+"""How the questions on document 02's request (vii), the captures, are laid out in octets.
 
 The table in README.md describes the same layout in words.
 """
 
 import struct
 
-WRITE, READ, SHOW = 1, 2, 3
+WRITE, READ = 1, 2
 
-NAMES = {WRITE: "write", READ: "read", SHOW: "show"}
+NAMES = {WRITE: "write", READ: "read"}
 
 # Little-endian, without gaps: H is two octets, B one. How many octets follow, room and fill.
 FIELDS = struct.Struct("<HHB")
@@ -17,5 +17,5 @@ MOST_OCTETS = 8192
 
 
 def question(kind, octets, room, fill):
-    """A trace to be written or shown, or a capture to be read."""
+    """A trace to be written, or a capture to be read."""
     return bytes([kind]) + FIELDS.pack(len(octets), room, fill) + octets

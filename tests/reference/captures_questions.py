@@ -1,12 +1,11 @@
-"""The questions asked about document 02's request (vii), the captures, and about captures for eyes.
+"""The questions asked about document 02's request (vii), the captures.
 
 Answers are not looked at here: traces, captures and the rooms that are lent are chosen by what is put into them.
 """
 
 from itertools import permutations, product
 
-import captures_mframes
-from captures_format import MOST_OCTETS, READ, SHOW, WRITE, question
+from captures_format import MOST_OCTETS, READ, WRITE, question
 from chance import Chance
 
 SEED = 8071
@@ -82,20 +81,9 @@ class Script:
         """Where no room is named, more than the capture has octets, and so more than its trace needs."""
         self.ask(READ, capture, len(capture) + 24 if room is None else room)
 
-    def of_trace(self, kind, trace, room):
-        """Where no room is named, more than a trace as long can need: at most it has a record in every four octets."""
-        self.ask(kind, trace, 4 * len(trace) + 30 if room is None else room)
-
     def write(self, trace, room=None):
-        self.of_trace(WRITE, trace, room)
-
-    def show(self, trace, room=None):
-        self.of_trace(SHOW, trace, room)
-
-    def write_and_show(self, trace, room=None):
-        """Of what no receiver hears a capture for eyes is the plain one, and it is refused alike."""
-        self.write(trace, room)
-        self.show(trace, room)
+        """Where no room is named, more than a trace as long can need: at most it has a record in every four octets."""
+        self.ask(WRITE, trace, 4 * len(trace) + 30 if room is None else room)
 
     def refused(self, call, octets):
         """With room, and with none."""
@@ -118,7 +106,7 @@ class Script:
 
 def no_records(script, _chance):
     for room in (0, 1, 23, 24, 25, 300, MOST_OCTETS):
-        script.write_and_show(b"", room)
+        script.write(b"", room)
         script.read(file_header("little"), room)
         script.read(file_header("big"), room)
 
@@ -127,7 +115,7 @@ def every_small_room(script, _chance):
     """Three records, the second of no content: every room from none to more than either call needs."""
     contents = [filling(5), b"", filling(2, 0xC0)]
     for room in range(90):
-        script.write_and_show(trace_of(contents), room)
+        script.write(trace_of(contents), room)
         script.read(capture_of(ORDERS[room % 2], contents), room)
 
 
@@ -296,7 +284,7 @@ def cuts(script, chance):
     """Captures and traces of four records, ended behind each octet."""
     contents = some_contents(chance, 4, 7)
     for octets, call in ((capture_of("little", contents), script.read), (capture_of("big", contents), script.read),
-                         (trace_of(contents), script.write_and_show)):
+                         (trace_of(contents), script.write)):
         for there in range(len(octets) + 1):
             call(octets[:there])
 
@@ -306,24 +294,24 @@ def trace_headers(script, chance):
     good = trace_of(some_contents(chance, 3))
     for header, there, before in product((trace_record(3, 0), trace_record(0xFFFF, 0, 0xFFFF), trace_record(0, 0, 2)),
                                          (1, 2, 3), (b"", good)):
-        script.refused(script.write_and_show, before + header[:there])
+        script.refused(script.write, before + header[:there])
     for bit in range(32):
-        script.write_and_show(with_bit_turned(trace_record(3) + trace_record(1), bit))
+        script.write(with_bit_turned(trace_record(3) + trace_record(1), bit))
     for length, kind, there in product((0, 1, 5, 1600, 1601, 1602, 2048, 0x8005, 0xFFFF),
                                        (0, 1, 2, 255, 256, 257, 0x8001, 0xFFFF), (0, 4, 5, 6)):
-        script.write_and_show(good[:chance.below(2) * len(good)] + trace_record(length, there, kind))
+        script.write(good[:chance.below(2) * len(good)] + trace_record(length, there, kind))
 
 
 def trace_lengths(script, _chance):
     """Records of a trace about the greatest length, whole and one octet short, of a good kind and of another."""
     for length in (1, 255, 256, 257, 1599, 1600):
-        script.write_and_show(trace_record(length), length + 40)
-        script.write_and_show(trace_record(length), length + 39)
-        script.write_and_show(trace_record(length, length - 1))
-    script.write_and_show(trace_record(1600, kind=2))
-    script.write_and_show(trace_record(1601, kind=2) + trace_record(1))
-    script.write_and_show(trace_record(1601) + trace_record(1), 0)
-    script.write_and_show(trace_record(1601, 1600))
+        script.write(trace_record(length), length + 40)
+        script.write(trace_record(length), length + 39)
+        script.write(trace_record(length, length - 1))
+    script.write(trace_record(1600, kind=2))
+    script.write(trace_record(1601, kind=2) + trace_record(1))
+    script.write(trace_record(1601) + trace_record(1), 0)
+    script.write(trace_record(1601, 1600))
 
 
 def trace_faults_in_two_records(script, chance):
@@ -332,9 +320,9 @@ def trace_faults_in_two_records(script, chance):
               trace_record(1601, 2), trace_record(9, 0, 257))
     for before, first, second in product((0, 1, 2), (*faults[:2], b""), faults):
         good = trace_of(some_contents(chance, before))
-        script.refused(script.write_and_show, good + first + good + second)
+        script.refused(script.write, good + first + good + second)
     for second in (*faults[:4], faults[5]):
-        script.write_and_show(trace_record(1) + trace_record(1601) + second)
+        script.write(trace_record(1) + trace_record(1601) + second)
 
 
 def long_ones(script, chance):
@@ -353,7 +341,7 @@ def late_refusals(script, _chance):
     """A record that is refused behind 254, 255 and some more that are empty: its number has two octets."""
     for before, fault in product((254, 255), (b"\x07", trace_record(1601, 0), trace_record(0, kind=2),
                                               trace_record(4, 3))):
-        script.write_and_show(trace_of([b""] * before) + fault)
+        script.write(trace_of([b""] * before) + fault)
     for before, order in ((254, "little"), (255, "big")):
         script.read(capture_of(order, [b""] * before) + record(order, 4, original=5))
     script.read(capture_of("big", [b""] * 255) + b"\x07")
@@ -410,44 +398,11 @@ def any_octets(script, chance):
         script.read(chance.octets(chance.below(40)))
 
 
-def shown_mframes(script, chance):
-    """What a receiver must keep apart, each with room for more."""
-    for mframes in captures_mframes.all_lists(chance):
-        script.show(trace_of(mframes))
-
-
-def shown_rooms(script, chance):
-    """Fragments with every room about what is needed, with room for some of the records, and with little."""
-    contents = captures_mframes.with_presses(chance)
-    trace = trace_of(contents)
-    for count in range(len(contents) + 1):
-        needed = len(capture_of("little", contents[:count]))
-        script.about(script.show, trace_of(contents[:count]), needed)
-        script.show(trace, needed)
-    for room in (1, 4, 23, 25, 40):
-        script.show(trace, room)
-
-
-def shown_refusals(script, chance):
-    """Behind fragments each refusal, with room, with none and with room for what comes before; and before fragments."""
-    contents = captures_mframes.with_presses(chance)
-    good = trace_of(contents)
-    for fault in (b"\x48\x00\x01", trace_record(1601, 70), trace_record(72, kind=2), trace_record(72, 71)):
-        script.refused(script.show, good + fault)
-        script.show(good + fault, len(capture_of("little", contents)))
-        script.show(trace_of(contents[:2]) + fault + good)
-        script.show(fault + good)
-    # A V, and a start that is cut.
-    whole, cut = trace_of(contents[:1]), trace_of(contents[1:2])
-    for there in range(2, len(cut), 5):
-        script.show(whole + cut[:there])
-
-
 PARTS = (no_records, every_small_room, cut_file_headers, every_bit_of_the_headers, magics, versions, link_types,
          fields_that_are_not_looked_at, faults_of_a_file_header_that_meet, cut_record_headers, lengths,
          lengths_that_are_too_great, lengths_in_the_other_order, lengths_that_differ, faults_of_a_record_that_meet,
          faults_in_two_records, contents_like_headers, cuts, trace_headers, trace_lengths, trace_faults_in_two_records,
-         long_ones, late_refusals, random_ones, damaged_ones, any_octets, shown_mframes, shown_rooms, shown_refusals)
+         long_ones, late_refusals, random_ones, damaged_ones, any_octets)
 
 
 def all_questions():

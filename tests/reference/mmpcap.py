@@ -16,8 +16,8 @@ from pathlib import Path
 import captures
 import trace
 
-USAGE = ("a capture is made from a trace, for eyes too, or read back, as in: mmpcap write row.trace row.pcap,"
-         " mmpcap show row.trace row.eyes.pcap, or: mmpcap read row.pcap row.trace")
+USAGE = ("a capture is made from a trace or read back, as in: mmpcap write row.trace row.pcap,"
+         " or: mmpcap read row.pcap row.trace")
 
 # What each word makes of what. Each is also the name of its call.
 WORDS = {"write": ("trace", "capture"), "show": ("trace", "capture"), "read": ("capture", "trace")}

@@ -1,16 +1,14 @@
 """Tests of captures_files.py: the stored files contain what document 02's request (vii) is to be run with.
 
-That they do is shown by wrong_captures.py and wrong_eyes.py: what is made and said of the stored files tells all that
-read, write or show them wrongly.
+That they do is shown by wrong_captures.py: what is made and said of the stored files tells all that read or write them
+wrongly.
 """
 
 import unittest
 
-import captures
 import captures_files
 import mmpcap
 import wrong_captures
-import wrong_eyes
 
 # Of each refusal the stored captures and traces that have it.
 REFUSED = {
@@ -45,17 +43,11 @@ PLACES = {"record_header_cut_first": 1, "original_other_order_big": 5, "content_
 # Each stored good capture with its length in octets, and how many records it has.
 GOOD = {
     "row": (5324, 45), "empty": (24, 0), "empty_record": (40, 1), "lengths": (5836, 16), "like_headers": (565, 9),
-    "long": (107_237, 3000), "every_answer": (182_582, 1502), "far_apart": (74_496, 51), "ends_in_assembly": (200, 2),
-    "other_big": (248, 6), "other_big_empty": (24, 0), "other_big_lengths": (5836, 16),
+    "long": (107_237, 3000), "other_big": (248, 6), "other_big_empty": (24, 0), "other_big_lengths": (5836, 16),
     "other_big_like_headers": (565, 9), "other_big_long": (107_237, 3000), "other_big_every_bit": (269, 7),
     "other_little": (248, 6), "other_little_seconds": (43, 1), "other_little_microseconds": (43, 1),
     "other_snap_length_0": (148, 3), "other_snap_length_1": (148, 3), "other_snap_length_1601": (148, 3),
 }
-
-
-# How many mFrames of each trace that is shown have another check in its capture for eyes.
-CHANGED = {"row": 16, "empty": 0, "empty_record": 0, "lengths": 0, "like_headers": 0, "long": 0, "every_answer": 699,
-           "far_apart": 2, "ends_in_assembly": 2}
 
 
 def stored_by_name():
@@ -78,7 +70,7 @@ class Files(unittest.TestCase):
         cls.files = stored_by_name()
 
     def test_names(self):
-        expected = dict.fromkeys(GOOD, {"pcap", "trace"}) | dict.fromkeys(CHANGED, {"pcap", "trace", "eyes.pcap"})
+        expected = dict.fromkeys(GOOD, {"pcap", "trace"})
         for number, names in REFUSED.items():
             expected |= dict.fromkeys(names.split(), {"trace" if number < 60 else "pcap", "said"})
         self.assertEqual({name: set(endings) for name, endings in self.files.items()}, expected)
@@ -99,17 +91,6 @@ class Files(unittest.TestCase):
                 written, _ = mmpcap.made("write", octets)
                 self.assertEqual(written == capture, not name.startswith("other_"))
                 self.assertEqual(mmpcap.made("read", written), (octets, ""))
-
-    def test_captures_for_eyes(self):
-        # They differ from the plain ones in the last four octets of some records, and in each of these four.
-        for name, count in CHANGED.items():
-            with self.subTest(name):
-                plain, eyes = (list(captures.pieces(self.files[name][ending])) for ending in ("pcap", "eyes.pcap"))
-                changed = [(one, other) for one, other in zip(plain, eyes, strict=True) if one != other]
-                self.assertEqual(len(changed), count)
-                for one, other in changed:
-                    self.assertEqual((one.header, one.content[:-4]), (other.header, other.content[:-4]))
-                    self.assertEqual(bytes(octet ^ 0xFF for octet in one.content[-4:]), other.content[-4:])
 
     def test_the_sample_is_the_row(self):
         [sample] = [file for file in captures_files.files() if file.path == "crates/mmpcap/data/sample.pcap"]
@@ -146,12 +127,11 @@ class WrongOnes(unittest.TestCase):
     @classmethod
     def setUpClass(cls):
         """What is given to each word of mmpcap, the short ones first, with what is made and said of it."""
-        cls.given = {word: [] for word in mmpcap.WORDS}
+        cls.given = {"read": [], "write": []}
         for name, files in stored_by_name().items():
-            for word, (taken, _) in mmpcap.WORDS.items():
-                ending = {"trace": "trace", "capture": "pcap"}[taken]
+            for word, ending in (("read", "pcap"), ("write", "trace")):
                 # A trace that was read from another maker's capture tells nothing more.
-                if ending in files and not (taken == "trace" and name.startswith("other_")):
+                if ending in files and not (word == "write" and name.startswith("other_")):
                     cls.given[word].append((files[ending], mmpcap.made(word, files[ending])))
         for pairs in cls.given.values():
             pairs.sort(key=lambda pair: len(pair[0]))
@@ -161,12 +141,8 @@ class WrongOnes(unittest.TestCase):
         return any(mmpcap.made(word, octets) != right for octets, right in self.given[word])
 
     def test_wrong_ones_are_told_from_a_right_one(self):
-        # A program is fresh with each file that it is given.
-        in_a_file = {name: wrong for name, wrong in wrong_eyes.EYES.items()
-                     if name != "the receiver goes on from trace to trace"}
         for word, kinds in (("read", (wrong_captures.READERS, wrong_captures.TRACES)),
-                            ("write", (wrong_captures.WRITERS, wrong_captures.CAPTURES)),
-                            ("show", (wrong_captures.WRITERS, wrong_captures.CAPTURES, in_a_file))):
+                            ("write", (wrong_captures.WRITERS, wrong_captures.CAPTURES))):
             self.assertFalse(self.told(word))
             for name, wrong in (pair for wrong_ones in kinds for pair in wrong_ones.items()):
                 with self.subTest(name, word=word), wrong():

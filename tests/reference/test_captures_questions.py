@@ -1,8 +1,8 @@
-"""Tests of the questions and answers on document 02's request (vii), the captures, and on captures for eyes.
+"""Tests of the questions and answers on document 02's request (vii), the captures.
 
 The questions are written here octet by octet, and the answers are put together by hand, so that the layout itself is
-tested. That the stored questions are enough is shown by wrong_captures.py and wrong_eyes.py: the lines of each call
-tell all that are wrong in it.
+tested. That the stored questions are enough is shown by wrong_captures.py: the lines of each call tell all that are
+wrong in it.
 """
 
 import unittest
@@ -10,11 +10,8 @@ from collections import Counter
 
 import captures_format
 import captures_questions
-import receiving
-import trace
 import wrong_captures
-import wrong_eyes
-from by_hand import check, mcrc, memory, standard_mcrc
+from by_hand import check, memory
 from captures_answers import answers
 from told import ToldByQuestions
 
@@ -29,10 +26,6 @@ HEADER = "D4C3B2A1 0200 0400 00000000 00000000 40060000 12010000"
 CAPTURE = HEADER + "00000000 00000000 03000000 03000000 55D501  00000000 00000000 00000000 00000000"
 BIG = ("A1B2C3D4 0002 0004 00000001 00000002 00000003 00000112"
        "00000004 00000005 00000003 00000003 55D501  00000006 00000007 00000000 00000000")
-# A V, whose preamble is swallowed: 69 octets of a trace, 105 of a capture.
-V_HEADER, V_DATA = "4100 0100 07", bytes(60)
-V_TRACE = V_HEADER + (V_DATA + mcrc(V_DATA)).hex()
-V_CAPTURE = bytes.fromhex(HEADER + "00000000 00000000 41000000 41000000 07") + V_DATA + standard_mcrc(V_DATA)
 
 
 class Answers(unittest.TestCase):
@@ -58,20 +51,13 @@ class Answers(unittest.TestCase):
         self.assertEqual(answer("02 1800 0000 07" + HEADER), "read 0 0 00000000\n")
         self.assertEqual(answer("02 0000 0300 07"), f"read 70 0 {check(memory(3, 7))}\n")
 
-    def test_show(self):
-        self.assertEqual(answer("03 4500 6900 F0" + V_TRACE), f"show 0 105 {check(V_CAPTURE)}\n")
-        self.assertEqual(answer("03 4500 0020 F0" + V_TRACE), f"show 0 105 {check(memory(8192, 0xF0, V_CAPTURE))}\n")
-        self.assertEqual(answer("03 4500 6800 F0" + V_TRACE), f"show 78 105 {check(memory(104, 0xF0))}\n")
-        self.assertEqual(answer("03 4600 6900 01" + V_TRACE + "00"), f"show 50 2 {check(memory(105, 1))}\n")
-        self.assertEqual(answer("03 0B00 3B00 F0" + TRACE), f"show 0 59 {check(bytes.fromhex(CAPTURE))}\n")
-
     def test_one_after_the_other(self):
         self.assertEqual(answer("01 0000 0000 07  02 0000 0000 07"), "write 78 24 00000000\nread 70 0 00000000\n")
 
     def test_questions_that_break_the_layout(self):
-        for broken in ("00", "04", "01 0000 0000", "01 0100 0000 00", "02 1800 0000 00" + HEADER[:-2], "03 0000 0000",
-                       "03 4500 6900 F0" + V_TRACE[:-2], *(kind + "0000 0120 00" for kind in ("01", "02", "03")),
-                       *(kind + "0120 0000 00" + "00" * 8193 for kind in ("01", "02", "03"))):
+        for broken in ("00", "03", "01 0000 0000", "01 0100 0000 00", "02 1800 0000 00" + HEADER[:-2],
+                       "01 0000 0120 00", "02 0000 0120 00", "01 0120 0000 00" + "00" * 8193,
+                       "02 0120 0000 00" + "00" * 8193):
             with self.subTest(broken=broken[:20]), self.assertRaises(ValueError):
                 answer(broken)
 
@@ -85,7 +71,7 @@ class Questions(unittest.TestCase):
     def test_every_outcome_is_met_often(self):
         outcomes = Counter(" ".join(line.split()[:2]) for line in self.lines)
         expected = {f"read {number}" for number in (0, *range(70, 79))}
-        expected |= {f"{call} {number}" for call in ("write", "show") for number in (0, 50, 51, 52, 53, 78)}
+        expected |= {f"write {number}" for number in (0, 50, 51, 52, 53, 78)}
         self.assertEqual(set(outcomes), expected)
         self.assertGreater(min(outcomes.values()), 50)
 
@@ -102,14 +88,13 @@ class Questions(unittest.TestCase):
     def test_every_refusal_is_met_without_room(self):
         met = {" ".join(line.split()[:2]) for question, line in zip(self.questions, self.lines)
                if captures_format.FIELDS.unpack(question[1:6])[1] == 0}
-        self.assertEqual(met, {" ".join(line.split()[:2]) for line in self.lines} - {"write 0", "show 0"})
+        self.assertEqual(met, {" ".join(line.split()[:2]) for line in self.lines} - {"write 0"})
 
     def test_the_limits_are_met(self):
         for line in ("write 0 24", "write 78 24", "write 0 40", "write 0 1639", "write 0 1640", "write 0 8104",
                      "write 0 8184", "write 78 8200", "write 78 32792", "write 50 256", "write 51 256", "write 52 256",
                      "write 53 256", "read 0 0", "read 0 4", "read 78 4", "read 0 1603", "read 0 1604", "read 0 2040",
-                     "read 0 8020", "read 74 256", "read 75 1", "read 76 256", "read 77 301", "show 0 24", "show 78 24",
-                     "show 0 40", "show 0 1640", "show 50 256", "show 51 256", "show 52 256", "show 53 256"):
+                     "read 0 8020", "read 74 256", "read 75 1", "read 76 256", "read 77 301"):
             self.assertTrue(any(stored.startswith(line + " ") for stored in self.lines), line)
 
     def test_both_orders_are_met_with_every_answer(self):
@@ -120,24 +105,9 @@ class Questions(unittest.TestCase):
         for numbers in met.values():
             self.assertEqual(numbers, {0, 70, 72, 73, 74, 75, 76, 77, 78})
 
-    def test_every_answer_of_the_receiver_is_shown_often(self):
-        met = Counter()
-        for question, line in zip(self.questions, self.lines):
-            if not line.startswith("show 0 "):
-                continue
-            buffer, state = bytearray(1518), receiving.fresh()
-            for record in trace.records(question[6:]):
-                was_open = state.assembly.assembling
-                answered, state = receiving.receive(buffer, state, record.content)
-                met[answered.number, was_open] += 1
-        both = (0, 1, 2, 3, 4, 12, 13, 14, 15, 17, 20, 21, 25)
-        self.assertEqual(set(met), {*((number, is_open) for number in both for is_open in (False, True)),
-                                    (22, False), (23, True), (24, True)})
-        self.assertGreater(min(met.values()), 1)
-
     def test_sizes_stay_small(self):
-        self.assertLess(sum(len(question) for question in self.questions), 650_000)
-        self.assertLess(sum(len(line) + 1 for line in self.lines), 120_000)
+        self.assertLess(sum(len(question) for question in self.questions), 400_000)
+        self.assertLess(sum(len(line) + 1 for line in self.lines), 100_000)
 
 
 class WrongOnes(ToldByQuestions):
@@ -148,22 +118,19 @@ class WrongOnes(ToldByQuestions):
     def test_right_ones(self):
         for call in self.asked:
             self.assertFalse(self.told(call))
-        for right in (wrong_captures.judged_by(wrong_captures.TRACE_TESTS), wrong_eyes.BY_INVERTING):
-            with right():
-                self.assertFalse(self.told("write"))
-                self.assertFalse(self.told("show"))
+        with wrong_captures.judged_by(wrong_captures.TRACE_TESTS)():
+            self.assertFalse(self.told("write"))
 
     def test_wrong_in_what_they_refuse(self):
         self.each(wrong_captures.READERS, "read")
-        self.each(wrong_captures.WRITERS, "write", "show")
+        self.each(wrong_captures.WRITERS, "write")
 
     def test_wrong_in_what_they_write(self):
         self.each(wrong_captures.TRACES, "read")
-        self.each(wrong_captures.CAPTURES, "write", "show")
-        self.each(wrong_eyes.EYES, "show")
+        self.each(wrong_captures.CAPTURES, "write")
 
     def test_wrong_in_the_memory_that_they_are_lent(self):
-        self.each(wrong_captures.ROOMS, "read", "write", "show")
+        self.each(wrong_captures.ROOMS, "read", "write")
         for call, wrong_ones in wrong_captures.REFUSING.items():
             self.each(wrong_ones, call)
 

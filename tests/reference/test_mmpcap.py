@@ -1,4 +1,4 @@
-"""Tests of mmpcap.py: document 02, request (vii), and captures for eyes, as files and as sentences."""
+"""Tests of mmpcap.py: document 02, request (vii), as files and as sentences."""
 
 import subprocess
 import sys
@@ -6,19 +6,15 @@ import tempfile
 import unittest
 from pathlib import Path
 
-from by_hand import mcrc, standard_mcrc
 from mmpcap import made
 
 TRACE = bytes.fromhex("0300 0100 55D501  0000 0100")
 HEADER = bytes.fromhex("D4C3B2A1 0200 0400 00000000 00000000 40060000 12010000")
 RECORD = bytes.fromhex("00000000 00000000 03000000 03000000 55D501")
 CAPTURE = HEADER + RECORD + bytes(16)
-# A V of 65 octets.
-V_TRACE = bytes.fromhex("4100 0100 07") + bytes(60) + mcrc(bytes(60))
-V_EYES = HEADER + bytes.fromhex("00000000 00000000 41000000 41000000 07") + bytes(60) + standard_mcrc(bytes(60))
 
-USAGE = (b"mmpcap: a capture is made from a trace, for eyes too, or read back, as in: mmpcap write row.trace row.pcap,"
-         b" mmpcap show row.trace row.eyes.pcap, or: mmpcap read row.pcap row.trace\n")
+USAGE = (b"mmpcap: a capture is made from a trace or read back, as in: mmpcap write row.trace row.pcap,"
+         b" or: mmpcap read row.pcap row.trace\n")
 SAME = b"mmpcap: the trace and the capture have the same name.\n"
 
 
@@ -27,13 +23,8 @@ class Made(unittest.TestCase):
         self.assertEqual(made("write", TRACE), (CAPTURE, ""))
         self.assertEqual(made("read", CAPTURE), (TRACE, ""))
 
-    def test_for_eyes(self):
-        self.assertEqual(made("show", V_TRACE), (V_EYES, ""))
-        self.assertEqual(made("show", TRACE), (CAPTURE, ""))
-
     def test_no_records(self):
         self.assertEqual(made("write", b""), (HEADER, ""))
-        self.assertEqual(made("show", b""), (HEADER, ""))
         self.assertEqual(made("read", HEADER), (b"", ""))
 
     def test_sentences_of_traces(self):
@@ -44,7 +35,6 @@ class Made(unittest.TestCase):
                 (TRACE + TRACE[:6], "record 3 is cut off: the trace ends inside it (53).")):
             with self.subTest(sentence):
                 self.assertEqual(made("write", octets), (None, f"mmpcap: {sentence}\n"))
-                self.assertEqual(made("show", octets), (None, f"mmpcap: {sentence}\n"))
 
     def test_sentences_of_captures(self):
         for octets, sentence in (
@@ -86,16 +76,9 @@ class Command(unittest.TestCase):
         self.assertEqual(self.end_of("read", "row.pcap", "new.trace"), (0, b""))
         self.assertEqual((self.content("new.pcap"), self.content("new.trace")), (CAPTURE, TRACE))
 
-    def test_for_eyes(self):
-        (self.folder / "row.trace").write_bytes(V_TRACE)
-        self.assertEqual(self.end_of("show", "row.trace", "row.eyes.pcap"), (0, b""))
-        self.assertEqual((self.content("row.eyes.pcap"), self.content("row.pcap")), (V_EYES, CAPTURE))
-
     def test_standard_input(self):
         self.assertEqual(self.end_of("write", "-", "new.pcap", stdin=TRACE), (0, b""))
         self.assertEqual(self.content("new.pcap"), CAPTURE)
-        self.assertEqual(self.end_of("show", "-", "new.eyes.pcap", stdin=V_TRACE), (0, b""))
-        self.assertEqual(self.content("new.eyes.pcap"), V_EYES)
 
     def test_standard_input_and_a_file_of_its_sign(self):
         self.assertEqual(self.end_of("write", "-", "-", stdin=TRACE), (0, b""))
@@ -104,8 +87,8 @@ class Command(unittest.TestCase):
 
     def test_what_is_refused_makes_nothing(self):
         said = b"mmpcap: record 3 is cut off: the trace ends inside its header (50).\n"
-        for word, target in (("write", "new.pcap"), ("write", "row.pcap"), ("show", "new.pcap"), ("show", "row.pcap")):
-            self.assertEqual(self.end_of(word, "-", target, stdin=TRACE + b"\x00"), (1, said))
+        for target in ("new.pcap", "row.pcap"):
+            self.assertEqual(self.end_of("write", "-", target, stdin=TRACE + b"\x00"), (1, said))
         self.assertFalse((self.folder / "new.pcap").exists())
         self.assertEqual(self.content("row.pcap"), CAPTURE)
 
@@ -113,18 +96,15 @@ class Command(unittest.TestCase):
         for words in ((), ("write",), ("write", "row.trace"), ("list", "row.trace", "new.pcap"),
                       ("write", "row.trace", "new.pcap", "new.pcap")):
             self.assertEqual(self.end_of(*words), (1, USAGE))
-        for word in ("write", "show"):
-            self.assertEqual(self.end_of(word, "row.trace", "row.trace"), (1, SAME))
+        self.assertEqual(self.end_of("write", "row.trace", "row.trace"), (1, SAME))
 
     def test_files_that_fail(self):
         for words, said in (
                 (("write", "missing", "new"), b"mmpcap: the trace could not be opened.\n"),
-                (("show", "missing", "new"), b"mmpcap: the trace could not be opened.\n"),
                 (("read", "missing", "new"), b"mmpcap: the capture could not be opened.\n"),
                 (("write", ".", "new"), b"mmpcap: the trace could not be read.\n"),
                 (("read", ".", "new"), b"mmpcap: the capture could not be read.\n"),
                 (("write", "row.trace", "missing/new"), b"mmpcap: the capture could not be written.\n"),
-                (("show", "row.trace", "missing/new"), b"mmpcap: the capture could not be written.\n"),
                 (("read", "row.pcap", "missing/new"), b"mmpcap: the trace could not be written.\n")):
             with self.subTest(words=words):
                 self.assertEqual(self.end_of(*words), (1, said))

@@ -523,13 +523,17 @@ def calling(call, wrong):
     return replaced(call, lambda given, room: wrong(call, given, room))
 
 
+def refusing(call):
+    return {"records before the refused one are written": calling(call, some_written),
+            "78 before the records behind": calling(call, short_at_once),
+            "78 before all else": calling(call, short_first),
+            "16 octets reckoned for each record": calling(call, told_for_16)}
+
+
 # Wrong in what is answered where something is refused, each call for itself.
-REFUSING = {call: {"records before the refused one are written": calling(call, some_written),
-                   "78 before the records behind": calling(call, short_at_once),
-                   "78 before all else": calling(call, short_first),
-                   "16 octets reckoned for each record": calling(call, told_for_16)}
-            for call in LAYOUTS}
-# A capture is longer than its trace, so that where one is made this would be no fault.
+REFUSING = {call: refusing(call) for call in ("read", "write")}
+# A capture is longer than its trace, so that of a write this would be no fault.
 REFUSING["read"]["room for as many octets as are given"] = calling("read", room_for_as_many)
+REFUSING_TO_SHOW = refusing("show")
 
 READERS = {**HEADERS, **RECORDS}

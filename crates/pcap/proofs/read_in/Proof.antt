@@ -21,7 +21,7 @@ enum-known-judged c = search rules
 returns : tie.Need-returns
 returns c =
     let a = c.before.before.before.before.args in
-    met_refused (trace_of (records_in a.order a.capture.now).contents) a.trace.now (length a.trace.now) c.before.of-capture.result _ c.before.of-capture.ensures c.match.keys2
+    met_refused (trace_of (records_in a.order a.capture.now).contents) a.trace.now c.before.of-capture.result _ c.before.of-capture.ensures c.match.keys2
 
 sub-octets : tie.Need-overflow-sub-octets
 sub-octets c = search rules
@@ -48,7 +48,7 @@ returns-2 c =
     let s = a.capture.now in
     let g = sym c.before.before.before.before.of-capture.ensures ∙ ap said c.before.before.judged.given.1 in
     let u = uncaptured a.order s _ c.before.before.before.before.before.before.before.requires g in
-    met_short (trace_of (records_in a.order s).contents) a.trace.now (length a.trace.now) _ _ _ g (omega (arith, u)) (omega (arith, u)) (omega (arith, u, c.if1.true))
+    met_short (trace_of (records_in a.order s).contents) a.trace.now _ _ _ g (omega (arith, u)) (omega (arith, u)) (omega (arith, u, c.if1.true))
 
 put-trace-requires : tie.Need-put-trace-requires
 put-trace-requires c κs =
@@ -67,7 +67,7 @@ returns-3 c =
     let s = a.capture.now in
     let g = sym c.before.before.before.before.before.before.before.before.of-capture.ensures ∙ ap said c.before.before.before.before.before.before.judged.given.1 in
     let u = uncaptured a.order s _ c.before.before.before.before.before.before.before.before.before.before.before.requires g in
-    met_good (trace_of (records_in a.order s).contents) a.trace.now (length a.trace.now) _ _ _ g (omega (arith, u)) (omega (arith, u, c.before.before.before.before.if1.false)) c.before.before.put-trace.ensures
+    met_good (trace_of (records_in a.order s).contents) a.trace.now _ _ _ g (omega (arith, u)) (omega (arith, u, c.before.before.before.before.if1.false)) c.before.before.put-trace.ensures
 
 pub read-in-spec : {M : Type 1} → statement M
 read-in-spec =
