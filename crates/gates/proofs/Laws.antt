@@ -2,17 +2,14 @@
 -- Assumes nothing.
 use mathlib.Core.Path.{◌≡◌, refl, sym, ap, ap₂, ◌∙◌, subst}
 use mathlib.Core.Bool.{Bool, true, false, cond}
-use mathlib.Core.List.{List, [], ◌∷◌}
+use mathlib.Core.List.{List, []}
 use Prim.Native.Nat.{ℕ, ◌≤◌, ◌<◌}
 use native.Mathlib.Omega.{arith}
-use denote.Enum.Declared.{tag_of}
 use lib.Dec.{ltb}
 use lib.ListN.{length}
-use types.Run.{OneOf, miss}
 use Rattle.rules.proofs.Tests.{tests}
 use Rattle.octets.specs.Laid.{over}
 use Rattle.gate_lists.specs.Lists.{Said, good, refused, short, said, number_of, value_of, of_octets, entries_from}
-use Rattle.gate_lists.specs.contracts.Answer as answer
 use Rattle.gate_lists.specs.declared.Answer.{Answer}
 use Rattle.gate_lists.specs.declared.Answer.TheVariants.{Good, Refused, Short}
 use Rattle.gate_lists.proofs.Contents.{length_from}
@@ -24,12 +21,12 @@ short_not_good k n e = let z : ◌≡◌ {A = ℕ} 64 0 = ap number_of e in absu
 
 -- an answer that is one of the other two is not good
 abbrev Other : Answer → Type 0
-Other a = OneOf (1 ∷ 2 ∷ []) (tag_of answer.the_type a)
+Other a = (n : ℕ) → a ≡ Good n → ⊥
 
 module _ {A : Type 0} (xs out : List A) where
   -- a list that is not good is answered so, and nothing is written
   pub met_refused : (a : Answer) (s : Said) → said a ≡ s → Other a → Met (outcome s xs (length out)) out (said a) out
-  met_refused (Good n) s e o = absurd (miss (1 ∷ 2 ∷ []) 0 tt o)
+  met_refused (Good n) s e o = absurd (o n refl)
   met_refused (Refused why k) s e o =
       subst (λ (x : Said). Met (outcome x xs (length out)) out (said (Refused why k)) out) e (record { answer = refl; output = refl })
   met_refused (Short n) s e o = subst (λ (x : Said). Met (outcome x xs (length out)) out (short n) out) e (record { answer = refl; output = refl })
@@ -82,7 +79,7 @@ room xs ys out k s a out' g e h m =
 
 -- where nothing is listed there is no cycle
 pub refused_cycle : (s : List ℕ) (a : Answer) → Other a → 0 ≡ cycle_of (said a) s
-refused_cycle s (Good n) o = absurd (miss (1 ∷ 2 ∷ []) 0 tt o)
+refused_cycle s (Good n) o = absurd (o n refl)
 refused_cycle s (Refused why k) o = refl
 refused_cycle s (Short n) o = refl
 

@@ -1,0 +1,43 @@
+-- `sender_words::sender_fits` meets its contract.
+use Rattle.sender_words.specs.Sender.{sender_fits}
+use Rattle.rules.proofs.Tests.{tests}
+use Rattle.sender_words.proofs.sender_fits.Goals as goal
+
+pub returns-then-words-gt1 : goal.returns-then-words-gt1
+unfolding sender_fits
+returns-then-words-gt1 c =
+    let t0 = c.if-words-gt1.true in
+    simp tests
+
+pub returns-then-words-gt1-2 : goal.returns-then-words-gt1-2
+unfolding sender_fits
+returns-then-words-gt1-2 c =
+    let t0 = c.if-words-gt1-2.true in
+    let t1 = c.if-words-gt1.false in
+    simp tests
+
+pub returns-then-words-gt255 : goal.returns-then-words-gt255
+unfolding sender_fits
+returns-then-words-gt255 c =
+    let t0 = c.if-words-gt255.true in
+    let t1 = c.if-words-gt1-2.false in
+    let t2 = c.if-words-gt1.false in
+    simp tests
+
+pub returns-then-words-gt255-2 : goal.returns-then-words-gt255-2
+unfolding sender_fits
+returns-then-words-gt255-2 c =
+    let t0 = c.if-words-gt255-2.true in
+    let t1 = c.if-words-gt255.false in
+    let t2 = c.if-words-gt1-2.false in
+    let t3 = c.if-words-gt1.false in
+    simp tests
+
+pub returns : goal.returns
+unfolding sender_fits
+returns c =
+    let t0 = c.if-words-gt255-2.false in
+    let t1 = c.if-words-gt255.false in
+    let t2 = c.if-words-gt1-2.false in
+    let t3 = c.if-words-gt1.false in
+    simp tests
