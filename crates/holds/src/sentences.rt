@@ -12,9 +12,17 @@ pub(crate) fn say(rt: HostRuntime, sentence: &[u8]) {
 pub(crate) fn refused(rt: HostRuntime, why: Refusal, entry: u32) {
     match why {
         Refusal::Cut => tell(rt, entry, b" is cut off: the list ends inside it (60).\n"),
-        Refusal::Operation => tell(rt, entry, b" has an operation other than 0, 1 and 2 (61).\n"),
+        Refusal::Operation => tell(
+            rt,
+            entry,
+            b" has an operation other than 0, 1 and 2 (61).\n",
+        ),
         Refusal::Length => tell(rt, entry, b" has a length other than 5 (62).\n"),
-        Refusal::Many => tell(rt, entry, b" is one too many: a list has 256 at most (63).\n"),
+        Refusal::Many => tell(
+            rt,
+            entry,
+            b" is one too many: a list has 256 at most (63).\n",
+        ),
     }
 }
 

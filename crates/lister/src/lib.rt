@@ -11,14 +11,19 @@ use mframe::BODY_MOST;
 use receiver_record::Record;
 use std::env::{Env, FillError};
 use std::io::{IsTerminal, Print};
+use std::process::ExitCode;
 use trace::{Cursor, Read, Refusal};
 use windows::{LONGEST, front, part};
+
+// The status of a program that the system ends for writing what nobody reads (SIGPIPE).
+const SIGPIPE: u8 = 128 + 13;
 
 // The longest line.
 const LINE: usize = 88;
 
 // Where the listing stands: the receiving record, the next record's number, the part of the window not yet read, whether nothing more comes,
-// how many octets of text wait to be written, why the trace is listed no further, and whether anything is left to do.
+// how many octets of text wait to be written, why the trace is listed no further, whether anything is left to do, and whether nobody reads the
+// listing any more.
 #[derive(Clone, Copy)]
 struct Standing {
     record: Record,
@@ -29,10 +34,14 @@ struct Standing {
     waiting: usize,
     trouble: Trouble,
     going: bool,
+    gone: bool,
 }
 
-// What waits could not be written, so that nothing more is listed.
-fn unwritten(rt: HostRuntime) {
+// What waits could not be written, so that nothing more is listed. That nobody reads any more is no failure.
+fn unwritten(rt: HostRuntime, gone: bool) {
+    if gone {
+        return;
+    }
     let _ = rt
         .stderr()
         .write_all(b"mmlist: the listing could not be written.\n");
@@ -135,8 +144,8 @@ fn stop(s: Standing, refusal: Refusal, out: &mut [u8], at: usize) -> Standing
     }
 }
 
-// The last line, written with all that waits; then what is to be said of the trace.
-fn finish(rt: HostRuntime, s: Standing, out: &mut [u8], at: usize)
+// The last line, written with all that waits; then what is to be said of the trace. Answers whether nobody reads any more.
+fn finish(rt: HostRuntime, s: Standing, out: &mut [u8], at: usize) -> bool
     requires { at + 88 ≤ length out.old }
 {
     let c = s.record.counters;
@@ -148,12 +157,15 @@ fn finish(rt: HostRuntime, s: Standing, out: &mut [u8], at: usize)
         out,
         at,
     );
-    if rt.write_all(front(out, next)).is_err() {
-        unwritten(rt);
-        return;
+    let written = rt.write_all(front(out, next));
+    if written.is_err() {
+        let gone = windows::is_gone(&written);
+        unwritten(rt, gone);
+        return gone;
     }
     let trouble = s.trouble;
     trouble.say(rt, s.number);
+    false
 }
 
 // The line of what was found, where there is room for one.
@@ -167,6 +179,7 @@ fn put(
 ) -> Standing {
     let place = windows::place_for(&mut rt.stdout(), out, s.waiting, LINE);
     let at = place.at;
+    let mut gone = place.gone;
     if place.free {
         match found {
             Found::Record { start, end } => {
@@ -174,13 +187,14 @@ fn put(
                 return list_record(s, content, end, buffer, out, at);
             }
             Found::Refused(refusal) => return stop(s, refusal, out, at),
-            Found::Part | Found::End => finish(rt, s, out, at),
+            Found::Part | Found::End => gone = finish(rt, s, out, at),
         }
     } else {
-        unwritten(rt);
+        unwritten(rt, gone);
     }
     let mut t = s;
     t.going = false;
+    t.gone = gone;
     t
 }
 
@@ -209,21 +223,26 @@ fn begin(out: &mut [u8; 65536]) -> Standing {
         waiting: lines::title(out, 0),
         trouble: Trouble::None,
         going: true,
+        gone: false,
     }
 }
 
-// The turns of a listing. A proved loop has to end, and nothing says that the input does: it has more turns than any input.
-fn list_all(rt: HostRuntime) {
+// The turns of a listing, and the program's status. A proved loop has to end, and nothing says that the input does: it has more turns than any input.
+fn list_all(rt: HostRuntime) -> ExitCode {
     let mut window = [0u8; 65536];
     let mut buffer = [0u8; BODY_MOST];
     let mut out = [0u8; 65536];
     let mut s = begin(&mut out);
     for _ in 0..u64::MAX {
         s = turn(rt, s, &mut window, &mut buffer, &mut out);
+        if s.gone {
+            return ExitCode::from(SIGPIPE);
+        }
         if !s.going {
-            return;
+            return ExitCode::SUCCESS;
         }
     }
+    ExitCode::SUCCESS
 }
 
 // Whether the program was started with a word at this place, its own name being the first.
@@ -236,13 +255,14 @@ fn none_given(rt: HostRuntime) -> bool {
     is_word(rt, 1) || rt.stdin().is_terminal()
 }
 
-// The listing of standard input, on standard output. Who gives no trace there is told how to give one.
-pub fn run(rt: HostRuntime) {
+// The listing of standard input, on standard output, and the program's status, which is 0 but where nobody reads on. Who gives no trace there is
+// told how to give one.
+pub fn run(rt: HostRuntime) -> ExitCode {
     if none_given(rt) {
-        let _ = rt
-            .stderr()
-            .write_all(b"mmlist: a trace is read on standard input, as in: mmlist <row.trace\n");
-        return;
+        let _ = rt.stderr().write_all(
+            b"mmlist: a trace is read on standard input, as in: mmlist <row.trace\n",
+        );
+        return ExitCode::SUCCESS;
     }
-    list_all(rt);
+    list_all(rt)
 }

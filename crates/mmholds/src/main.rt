@@ -1,6 +1,8 @@
 // The holds and releases of a gate control list (document 02, (i)).
 #![tactic(auto)]
 
-fn main(rt: HostRuntime) {
-    holds::run(rt);
+use std::process::ExitCode;
+
+fn main(rt: HostRuntime) -> ExitCode {
+    holds::run(rt)
 }

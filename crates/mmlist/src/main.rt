@@ -1,6 +1,8 @@
 // The listing of a trace on standard input (document 01, "Trace and listing").
 #![tactic(auto)]
 
-fn main(rt: HostRuntime) {
-    lister::run(rt);
+use std::process::ExitCode;
+
+fn main(rt: HostRuntime) -> ExitCode {
+    lister::run(rt)
 }

@@ -1,6 +1,8 @@
 // Document 01's own example of a trace, listed as mmlist lists any.
 #![tactic(auto)]
 
-fn main(rt: HostRuntime) {
-    lister::run(rt);
+use std::process::ExitCode;
+
+fn main(rt: HostRuntime) -> ExitCode {
+    lister::run(rt)
 }

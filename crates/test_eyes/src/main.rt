@@ -3,6 +3,7 @@
 #![tactic(auto)]
 
 use pcap_lists::Answer;
+use std::process::ExitCode;
 use test_questions::read::Question;
 use test_questions::went::Went;
 use test_questions::{read, say};
@@ -12,7 +13,7 @@ fn say_answer(rt: HostRuntime, answer: Answer, lent: &[u8]) -> Went {
     say::number(rt, answer.number() as u64);
     say::number(rt, answer.value() as u64);
     say::octets(rt, crc::fcs(crc::over(crc::ALL_ONES, lent)));
-    Went::answered(say::line_end(rt))
+    say::line_end(rt)
 }
 
 fn write(rt: HostRuntime, given: &[u8], lent: &mut [u8]) -> Went {
@@ -56,13 +57,14 @@ fn question(rt: HostRuntime, q: Question) -> Went {
 const SIZES: [usize; 4] = [0, 6, 6, 6];
 
 // A proved loop has to end, and nothing says that the input does: it has more turns than any input.
-fn main(rt: HostRuntime) {
+fn main(rt: HostRuntime) -> ExitCode {
     let mut went = Went::start(rt);
     for _ in 0..u32::MAX {
         let q = went.next(rt, b"test_eyes", &SIZES);
         if !q.asked {
-            return;
+            return went.status();
         }
         went = question(rt, q);
     }
+    ExitCode::SUCCESS
 }

@@ -5,6 +5,7 @@
 ghost use Rattle.std.specs.Prelude.{◌+◌, ◌≤◌, length};
 
 use gate_lists::Answer;
+use std::process::ExitCode;
 use test_questions::read::Question;
 use test_questions::went::Went;
 use test_questions::{read, say};
@@ -151,7 +152,7 @@ fn read_list(rt: HostRuntime, q: Question) -> Went {
     say::text(rt, b"read");
     say_answer(rt, answer);
     say_entries(rt, out);
-    Went::answered(say::line_end(rt))
+    say::line_end(rt)
 }
 
 fn write_list(rt: HostRuntime, q: Question) -> Went {
@@ -175,7 +176,7 @@ fn write_list(rt: HostRuntime, q: Question) -> Went {
     say::text(rt, b"write");
     say_answer(rt, answer);
     say_octets(rt, out);
-    Went::answered(say::line_end(rt))
+    say::line_end(rt)
 }
 
 fn list_events(rt: HostRuntime, q: Question) -> Went {
@@ -196,7 +197,7 @@ fn list_events(rt: HostRuntime, q: Question) -> Went {
     say_answer(rt, answer);
     say::number(rt, listed.cycle);
     say_events(rt, out);
-    Went::answered(say::line_end(rt))
+    say::line_end(rt)
 }
 
 // The octets that the numbers of each kind of question take.
@@ -211,13 +212,14 @@ fn question(rt: HostRuntime, q: Question) -> Went {
 }
 
 // A proved loop has to end, and nothing says that the input does: it has more turns than any input.
-fn main(rt: HostRuntime) {
+fn main(rt: HostRuntime) -> ExitCode {
     let mut went = Went::start(rt);
     for _ in 0..u32::MAX {
         let q = went.next(rt, b"test_gates", &SIZES);
         if !q.asked {
-            return;
+            return went.status();
         }
         went = question(rt, q);
     }
+    ExitCode::SUCCESS
 }

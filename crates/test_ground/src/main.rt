@@ -6,12 +6,13 @@ use codes::{FragmentCount, FrameCount};
 use cut::{Ask, Part};
 use delimiters::{Delimiter, Fragment};
 use endings::Ending;
+use std::process::ExitCode;
 use test_questions::read::Question;
 use test_questions::went::Went;
 use test_questions::{read, say};
 
 // The check octets of every number of octets from 0 to all of them.
-fn check_line(rt: HostRuntime, register: u32, octets: &[u8], k: usize) -> bool {
+fn check_line(rt: HostRuntime, register: u32, octets: &[u8], k: usize) -> Went {
     let after = crc::over(register, read::front(octets, k));
     say::text(rt, b"check");
     say::number(rt, k as u64);
@@ -20,11 +21,12 @@ fn check_line(rt: HostRuntime, register: u32, octets: &[u8], k: usize) -> bool {
     say::line_end(rt)
 }
 
-fn check_lines(rt: HostRuntime, register: u32, octets: &[u8]) -> bool {
+fn check_lines(rt: HostRuntime, register: u32, octets: &[u8]) -> Went {
     let n = octets.len();
     for k in 0..n {
-        if !check_line(rt, register, octets, k) {
-            return false;
+        let went = check_line(rt, register, octets, k);
+        if !went.is_on() {
+            return went;
         }
     }
     check_line(rt, register, octets, n)
@@ -58,7 +60,7 @@ fn octet(rt: HostRuntime, octet: u8) -> Went {
     say::number(rt, delimiters::distance(octet) as u64);
     say_delimiter(rt, delimiters::delimiter_of(octet));
     say_fragment(rt, delimiters::fragment_of(octet));
-    Went::answered(say::line_end(rt))
+    say::line_end(rt)
 }
 
 // A count's steps and codes.
@@ -76,11 +78,11 @@ fn count(rt: HostRuntime, n: u8) -> Went {
     say::small(rt, frame.continued());
     say::small(rt, later.0);
     say::small(rt, fragment.code());
-    Went::answered(say::line_end(rt))
+    say::line_end(rt)
 }
 
 // Where an mFrame is cut.
-fn say_part(rt: HostRuntime, p: Part) -> bool {
+fn say_part(rt: HostRuntime, p: Part) -> Went {
     say::text(rt, b"cut");
     match p {
         Part::Whole => say::text(rt, b" whole"),
@@ -95,11 +97,11 @@ fn ask_of(asked: u8, t: usize) -> Ask {
 
 fn cut_asked(rt: HostRuntime, q: Question) -> Went {
     let ask = ask_of(q.octet(18), q.long(19));
-    Went::answered(say_part(rt, cut::next_part(q.long(1), q.long(9), q.octet(17), ask)))
+    say_part(rt, cut::next_part(q.long(1), q.long(9), q.octet(17), ask))
 }
 
 // What the last four octets decide.
-fn say_ending(rt: HostRuntime, e: Ending) -> bool {
+fn say_ending(rt: HostRuntime, e: Ending) -> Went {
     say::text(rt, b"ending");
     match e {
         Ending::Done(n) => {
@@ -126,18 +128,18 @@ fn over_octets(rt: HostRuntime, q: Question, check: bool) -> Went {
     }
     let octets = read::front(&space, n);
     if check {
-        return Went::answered(check_lines(rt, register, octets));
+        return check_lines(rt, register, octets);
     }
-    Went::answered(say_ending(rt, endings::judge(register, octets)))
+    say_ending(rt, endings::judge(register, octets))
 }
 
 // A piece laid into memory.
-fn no_room(rt: HostRuntime) -> bool {
+fn no_room(rt: HostRuntime) -> Went {
     say::text(rt, b"lay no room");
     say::line_end(rt)
 }
 
-fn lay_piece(rt: HostRuntime, piece: &[u8], memory: &mut [u8], at: usize) -> bool {
+fn lay_piece(rt: HostRuntime, piece: &[u8], memory: &mut [u8], at: usize) -> Went {
     if memory.len() < at {
         return no_room(rt);
     }
@@ -161,12 +163,12 @@ fn lay(rt: HostRuntime, q: Question) -> Went {
     if !read::part(rt, &mut piece, 0, m) {
         return Went::Broken;
     }
-    Went::answered(lay_piece(
+    lay_piece(
         rt,
         read::front(&piece, m),
         read::front_mut(&mut memory, n),
         q.short(5),
-    ))
+    )
 }
 
 // The octets that the numbers of each kind of question take.
@@ -184,13 +186,14 @@ fn question(rt: HostRuntime, q: Question) -> Went {
 }
 
 // A proved loop has to end, and nothing says that the input does: it has more turns than any input.
-fn main(rt: HostRuntime) {
+fn main(rt: HostRuntime) -> ExitCode {
     let mut went = Went::start(rt);
     for _ in 0..u32::MAX {
         let q = went.next(rt, b"test_ground", &SIZES);
         if !q.asked {
-            return;
+            return went.status();
         }
         went = question(rt, q);
     }
+    ExitCode::SUCCESS
 }

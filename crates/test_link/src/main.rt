@@ -8,6 +8,7 @@ mod tally;
 use crate::tally::Tally;
 use cut::Ask;
 use sender_answers::Answer;
+use std::process::ExitCode;
 use test_questions::went::Went;
 use test_questions::{read, say};
 
@@ -24,7 +25,7 @@ struct Link {
     wrote: usize,
     preemptable: bool,
     done: bool,
-    written: bool,
+    written: Went,
 }
 
 // What a call wrote, or that it refused.
@@ -202,7 +203,7 @@ fn fate(rt: HostRuntime, l: Link, out: &[u8], buffer: &mut [u8; 1518]) -> Link {
     )
 }
 
-fn say_end(rt: HostRuntime, l: Link) -> bool {
+fn say_end(rt: HostRuntime, l: Link) -> Went {
     let t = l.tally;
     let r = l.receiver;
     let c = r.counters;
@@ -224,7 +225,7 @@ fn one_turn(rt: HostRuntime, before: Link, out: &mut [u8; 1530], buffer: &mut [u
 }
 
 // All turns of an entry.
-fn play(rt: HostRuntime, seed: u32, turns: u32) -> bool {
+fn play(rt: HostRuntime, seed: u32, turns: u32) -> Went {
     let mut out = [0u8; 1530];
     let mut buffer = [0u8; 1518];
     let mut l = Link {
@@ -237,25 +238,26 @@ fn play(rt: HostRuntime, seed: u32, turns: u32) -> bool {
         wrote: 0,
         preemptable: false,
         done: false,
-        written: true,
+        written: Went::On,
     };
     for _ in 0..turns {
         l = one_turn(rt, l, &mut out, &mut buffer);
-        if !l.written {
-            return false;
+        if !l.written.is_on() {
+            return l.written;
         }
     }
     say_end(rt, l)
 }
 
 // A proved loop has to end, and nothing says that the input does: it has more turns than any input.
-fn main(rt: HostRuntime) {
+fn main(rt: HostRuntime) -> ExitCode {
     let mut went = Went::start(rt);
     for _ in 0..u32::MAX {
         let q = went.next(rt, b"test_link", &[8]);
         if !q.asked {
-            return;
+            return went.status();
         }
-        went = Went::answered(play(rt, q.word(0), q.word(4)));
+        went = play(rt, q.word(0), q.word(4));
     }
+    ExitCode::SUCCESS
 }

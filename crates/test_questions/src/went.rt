@@ -1,7 +1,8 @@
-// How a question went. The first that does not go on ends its program, which says why, once: a program has no exit status.
+// How a question went. The first that does not go on ends its program, which says why, once: but where nobody reads on, a program's status is 0.
 use crate::read;
 use crate::read::Question;
 use std::io::{IsTerminal, Print};
+use std::process::ExitCode;
 
 #[derive(Clone, Copy)]
 pub enum Went {
@@ -16,7 +17,12 @@ pub enum Went {
     Broken,
     // The answer could not be written.
     Unwritten,
+    // Nobody reads the answers any more, which is no failure.
+    Gone,
 }
+
+// The status of a program that the system ends for writing what nobody reads (SIGPIPE).
+const SIGPIPE: u8 = 128 + 13;
 
 impl Went {
     // Before the first question.
@@ -27,16 +33,24 @@ impl Went {
         Went::On
     }
 
-    // After an answer, written or not.
-    pub fn answered(written: bool) -> Went {
-        if written { Went::On } else { Went::Unwritten }
+    // Whether the answer was written.
+    pub fn is_on(self) -> bool {
+        matches!(self, Went::On)
+    }
+
+    // The status with which the program ends, which is 0 but where nobody reads on.
+    pub fn status(self) -> ExitCode {
+        match self {
+            Went::Gone => ExitCode::from(SIGPIPE),
+            _ => ExitCode::SUCCESS,
+        }
     }
 
     // Whether the program of this name goes on.
     pub fn goes_on(self, rt: HostRuntime, name: &[u8]) -> bool {
         match self {
             Went::On => return true,
-            Went::Over => {}
+            Went::Over | Went::Gone => {}
             Went::Terminal => example(rt, name),
             Went::Unread => tell(rt, name, b": the questions could not be read.\n"),
             Went::Broken => tell(

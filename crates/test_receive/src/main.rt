@@ -6,6 +6,7 @@ use codes::{FragmentCount, FrameCount};
 use counters::Counters;
 use receiver_answers::Answer;
 use receiver_record::Record;
+use std::process::ExitCode;
 use test_questions::read::Question;
 use test_questions::went::Went;
 use test_questions::{read, say};
@@ -104,7 +105,7 @@ fn receive_into(rt: HostRuntime, kept: Kept, mframe: &[u8], buffer: &mut [u8]) -
     Kept {
         record,
         buffer: kept.buffer,
-        went: Went::answered(say::line_end(rt)),
+        went: say::line_end(rt),
     }
 }
 
@@ -134,7 +135,7 @@ fn question(rt: HostRuntime, kept: Kept, q: Question, space: &mut [u8]) -> Kept 
 }
 
 // A proved loop has to end, and nothing says that the input does: it has more turns than any input.
-fn main(rt: HostRuntime) {
+fn main(rt: HostRuntime) -> ExitCode {
     let mut space = [0u8; 2048];
     let mut kept = Kept {
         record: Record::fresh(),
@@ -145,8 +146,9 @@ fn main(rt: HostRuntime) {
         let went = kept.went;
         let q = went.next(rt, b"test_receive", &SIZES);
         if !q.asked {
-            return;
+            return went.status();
         }
         kept = question(rt, kept, q, &mut space);
     }
+    ExitCode::SUCCESS
 }

@@ -6,6 +6,7 @@ use codes::{FragmentCount, FrameCount};
 use cut::Ask;
 use sender_answers::Answer;
 use sender_record::Record;
+use std::process::ExitCode;
 use test_questions::read::Question;
 use test_questions::went::Went;
 use test_questions::{read, say};
@@ -53,7 +54,7 @@ fn say_record(rt: HostRuntime, r: Record) {
 fn answered(rt: HostRuntime, name: &[u8], answer: Answer, out: &[u8]) -> Went {
     say::text(rt, name);
     say_answer(rt, answer, out);
-    Went::answered(say::line_end(rt))
+    say::line_end(rt)
 }
 
 fn express(rt: HostRuntime, q: Question) -> Went {
@@ -136,7 +137,7 @@ fn preemptable(rt: HostRuntime, kept: Kept, q: Question, body: &[u8; 2048]) -> K
     Kept {
         record,
         body: n,
-        went: Went::answered(say::line_end(rt)),
+        went: say::line_end(rt),
     }
 }
 
@@ -164,7 +165,7 @@ fn question(rt: HostRuntime, kept: Kept, q: Question, space: &mut [u8; 2048]) ->
 }
 
 // A proved loop has to end, and nothing says that the input does: it has more turns than any input.
-fn main(rt: HostRuntime) {
+fn main(rt: HostRuntime) -> ExitCode {
     let mut space = [0u8; 2048];
     let mut kept = Kept {
         record: Record::fresh(true, false, 0),
@@ -175,8 +176,9 @@ fn main(rt: HostRuntime) {
         let went = kept.went;
         let q = went.next(rt, b"test_send", &SIZES);
         if !q.asked {
-            return;
+            return went.status();
         }
         kept = question(rt, kept, q, &mut space);
     }
+    ExitCode::SUCCESS
 }

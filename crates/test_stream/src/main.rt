@@ -5,6 +5,7 @@
 use codes::{FragmentCount, FrameCount};
 use counters::Counters;
 use receiver_record::Record;
+use std::process::ExitCode;
 use stream::{Given, Reply, State};
 use test_questions::read::Question;
 use test_questions::went::Went;
@@ -177,7 +178,7 @@ fn take(rt: HostRuntime, kept: Kept, octets: &[u8], area: &mut [u8], buffer: &mu
     say_tally(rt, tally);
     say_state(rt, state);
     say_check(rt, area);
-    let went = Went::answered(say::line_end(rt));
+    let went = say::line_end(rt);
     Kept {
         state,
         record,
@@ -229,7 +230,7 @@ fn end(rt: HostRuntime, kept: Kept, area: &mut [u8], buffer: &mut [u8]) -> Kept 
     say_counters(rt, counters);
     say_check(rt, area);
     say_check(rt, buffer);
-    let went = Went::answered(say::line_end(rt));
+    let went = say::line_end(rt);
     Kept {
         state,
         record,
@@ -264,7 +265,7 @@ fn question(
 }
 
 // A proved loop has to end, and nothing says that the input does: it has more turns than any input.
-fn main(rt: HostRuntime) {
+fn main(rt: HostRuntime) -> ExitCode {
     let mut areas = [0u8; 2048];
     let mut buffers = [0u8; 2048];
     let mut kept = Kept {
@@ -278,8 +279,9 @@ fn main(rt: HostRuntime) {
         let went = kept.went;
         let q = went.next(rt, b"test_stream", &SIZES);
         if !q.asked {
-            return;
+            return went.status();
         }
         kept = question(rt, kept, q, &mut areas, &mut buffers);
     }
+    ExitCode::SUCCESS
 }

@@ -2,6 +2,7 @@
 // the reference alone.
 #![tactic(auto)]
 
+use std::process::ExitCode;
 use test_questions::read::Question;
 use test_questions::say;
 use test_questions::went::Went;
@@ -92,7 +93,7 @@ fn event(rt: HostRuntime, kept: Kept, q: Question) -> Kept {
     say_record(rt, record);
     Kept {
         record,
-        went: Went::answered(say::line_end(rt)),
+        went: say::line_end(rt),
     }
 }
 
@@ -107,7 +108,7 @@ fn question(rt: HostRuntime, kept: Kept, q: Question) -> Kept {
 }
 
 // A proved loop has to end, and nothing says that the input does: it has more turns than any input.
-fn main(rt: HostRuntime) {
+fn main(rt: HostRuntime) -> ExitCode {
     let mut kept = Kept {
         record: Record::fresh(),
         went: Went::start(rt),
@@ -116,8 +117,9 @@ fn main(rt: HostRuntime) {
         let went = kept.went;
         let q = went.next(rt, b"test_verify", &SIZES);
         if !q.asked {
-            return;
+            return went.status();
         }
         kept = question(rt, kept, q);
     }
+    ExitCode::SUCCESS
 }

@@ -6,8 +6,8 @@
 use cut::{Ask, Part};
 use sender_answers::Answer;
 use sender_record::Record;
+use std::process::ExitCode;
 use test_questions::say;
-use test_questions::went::Went;
 
 fn say_length(rt: HostRuntime, what: &[u8], answer: Answer) {
     say::text(rt, what);
@@ -70,7 +70,7 @@ fn most(longest: usize) -> usize {
 
 // The photograph, whole, as a port that isn't active sends it; then asked at its first octet to make way, the press, and the rest; then the
 // most octets behind an ask. An output that did not take a line does not take the last one's end either, so that nobody else has to ask.
-fn main(rt: HostRuntime) {
+fn main(rt: HostRuntime) -> ExitCode {
     photograph(
         rt,
         b"photograph whole",
@@ -87,5 +87,7 @@ fn main(rt: HostRuntime) {
     photograph(rt, b"photograph rest", cut, Ask::None);
     say::text(rt, b"longest wait cut");
     say::number(rt, most(1522) as u64);
-    Went::answered(say::line_end(rt)).goes_on(rt, b"test_waits");
+    let went = say::line_end(rt);
+    went.goes_on(rt, b"test_waits");
+    went.status()
 }

@@ -4,7 +4,8 @@
 
 ghost use Rattle.std.specs.Prelude.{◌+◌, ◌≤◌, length};
 
-use std::io::{Read, Write};
+use std::io;
+use std::io::{ErrorKind, Read, Write};
 
 // The octets of the longest record, one of a capture, with its header: where so many are in the window, or the input has ended, a record of a
 // trace or of a capture, and a capture's header, read as in the whole input (the theorems of captures, Window).
@@ -65,11 +66,17 @@ pub fn read_on<R: Read>(input: &mut R, window: &mut [u8], from: usize, to: usize
     }
 }
 
-// The place for a piece of output: behind what waits, or at the front once that is written, if it could be.
+// Whether an output could not be written for want of a reader.
+pub fn is_gone(written: &io::Result<()>) -> bool {
+    matches!(written, Err(error) if error.kind() == ErrorKind::BrokenPipe)
+}
+
+// The place for a piece of output: behind what waits, or at the front once that is written, if it could be; and whether nobody reads any more.
 #[derive(Drop)]
 pub struct Place {
     pub at: usize,
     pub free: bool,
+    pub gone: bool,
 }
 
 pub fn place_for<W: Write>(output: &mut W, out: &[u8], waiting: usize, room: usize) -> Place
@@ -80,10 +87,13 @@ pub fn place_for<W: Write>(output: &mut W, out: &[u8], waiting: usize, room: usi
         return Place {
             at: waiting,
             free: true,
+            gone: false,
         };
     }
+    let written = output.write_all(front(out, waiting));
     Place {
         at: 0,
-        free: output.write_all(front(out, waiting)).is_ok(),
+        free: written.is_ok(),
+        gone: is_gone(&written),
     }
 }
