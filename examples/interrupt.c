@@ -1,6 +1,6 @@
 /* Receiving in an interrupt handler, octet by octet: a press breaks into a photograph, the PHY swallows some of its preamble,
  * noise comes between, and the main loop finds both bodies as they were sent. For x86-64, from the folder of the project, once
- * `rt staticlib seatport` has made the archive:
+ * `scripts/archive` has made the archive:
  *
  *     cc -Iinclude examples/interrupt.c target/staticlib/libseatport.a -o interrupt
  *

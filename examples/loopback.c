@@ -1,6 +1,6 @@
 /* Two ports in memory, joined by a wire: the button is pressed while a photograph is on its way. The press breaks into the
  * photograph, both arrive whole, and each mFrame is printed as it comes. For x86-64, from the folder of the project, once
- * `rt staticlib seatport` has made the archive:
+ * `scripts/archive` has made the archive:
  *
  *     cc -Iinclude examples/loopback.c target/staticlib/libseatport.a -o loopback
  */

@@ -1,5 +1,5 @@
 /* The holds and releases of a gate control list: of the one in memory below, which keeps the wire free of photographs for
- * the first 2 ms of every 10 ms. For x86-64, from the folder of the project, once `rt staticlib seatport` has made the
+ * the first 2 ms of every 10 ms. For x86-64, from the folder of the project, once `scripts/archive` has made the
  * archive:
  *
  *     cc -Iinclude examples/schedule.c target/staticlib/libseatport.a -o schedule

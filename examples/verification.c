@@ -1,6 +1,6 @@
 /* Two ports in memory, on a long row with repeaters: a V takes 13 ms to the far end, its R 13 ms back, and the first V is
  * lost. With the usual wait of 10 ms the near end's link fails, with one of 40 ms it is verified. For x86-64, from the
- * folder of the project, once `rt staticlib seatport` has made the archive:
+ * folder of the project, once `scripts/archive` has made the archive:
  *
  *     cc -Iinclude examples/verification.c target/staticlib/libseatport.a -o verification
  *

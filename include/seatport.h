@@ -16,7 +16,7 @@
  * | verified: a caller that sets active only once the link is verified sends it no fragment.                             |
  * +----------------------------------------------------------------------------------------------------------------------+
  *
- * Link with libseatport.a. `rt staticlib seatport` makes it for x86-64, `make firmware` for a Cortex-M3 or another
+ * Link with libseatport.a. `scripts/archive` makes it for x86-64, `make firmware` for a Cortex-M3 or another
  * processor. Compiled for the Cortex-M3 with -Os it calls __aeabi_memclr4 of the C library and nothing else (`make
  * firmware` prints the names for other options), and reads and writes words at any address, which must not trap
  * (docs/BOARD.md).

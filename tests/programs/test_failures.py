@@ -17,7 +17,8 @@ from inputs import failing_behind
 ROOT = Path(__file__).resolve().parents[2]
 RUN = str(ROOT / "scripts" / "run-program")
 TRACES = ROOT / "tests" / "traces"
-QUESTIONS = ("test_ground", "test_send", "test_receive", "test_stream", "test_verify", "test_link", "test_gates", "test_captures")
+QUESTIONS = ("test_ground", "test_send", "test_receive", "test_stream", "test_verify", "test_link", "test_gates", "test_captures",
+             "test_eyes")
 LISTING = ("mmlist", "mmholds", *QUESTIONS)
 READING = (*LISTING, "mmpcap")
 WRITING = (*LISTING, "test_waits")

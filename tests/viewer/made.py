@@ -58,7 +58,7 @@ def good_traces():
     """Every good trace by its name: the sample (row), document 01's example, those of tests/traces, one of every answer and one of every kind."""
     names = [path.stem for path in (ROOT / "tests" / "traces").glob("*.trace") if not path.stem.startswith("refused_")]
     stored = {name: (ROOT / traces.places(name)[0]).read_bytes() for name in (*traces.PROGRAMS, *names)}
-    every_answer = (ROOT / "tests" / "captures" / "every_answer.trace").read_bytes()
+    every_answer = (ROOT / "tests" / "eyes" / "every_answer.trace").read_bytes()
     return stored | {"every answer": every_answer, "every kind": trace.written(every_kind())}
 
 

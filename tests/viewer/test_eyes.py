@@ -7,10 +7,11 @@ box cut.
 
 import itertools
 
+import viewer
 from made import (DATAGRAM, REQUEST, answered, answers, captures, codes, contents, contents_of_capture, crc, cut, delivered, every_kind, exchange,
                   good_traces, is_continuation, mframe, published, trace, whole, with_preamble)
 from rule import HALF, put_together
-from viewer import EDITCAP, ONE_PASS, ROOT, Captures, about, found, listed, shown
+from viewer import EDITCAP, ONE_PASS, ROOT, TWO_PASSES, Captures, about, found, listed
 from words import (ASKS, COUNTS, NO_HEADER, SENDS, continued, delimiter, fragment_count, in_short, not_as, on_preamble, pieces, right, right_mcrc,
                    row, started, verifications, wrong)
 
@@ -54,6 +55,11 @@ def hit(octets):
 def differing(one, other):
     """The numbers under which two tables have different things."""
     return sorted(number for number in one.keys() | other.keys() if one.get(number) != other.get(number))
+
+
+def shown(capture, passes=TWO_PASSES):
+    """Every record of a capture, as the viewer shows it that has gone through the file once."""
+    return viewer.shown(capture, passes)
 
 
 class Eyes(Captures):

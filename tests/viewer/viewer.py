@@ -69,7 +69,7 @@ def listed(capture, column=None, passes=TWO_PASSES):
     return [" ".join(line.split()) for line in lines]
 
 
-def shown(capture, passes=TWO_PASSES):
+def shown(capture, passes=ONE_PASS):
     """Every record of a capture, as tshark shows it."""
     tree = io.BytesIO(asked("tshark", *passes, "-n", "-r", capture, "-T", "pdml", "-J", "fpp"))
     packets = [taken_from(packet) for _, packet in ElementTree.iterparse(tree) if packet.tag == "packet"]
