@@ -21,7 +21,9 @@ use Rattle.mframe.specs.declared.Kind.{Kind}
 use Rattle.mframe.specs.declared.Kind.TheVariants as K
 use Rattle.faults.specs.declared.Fault.{Fault}
 use Rattle.receiver_record.specs.declared.Record.{Record}
+use Rattle.receiver_answers.specs.declared.Refusal.{Refusal}
 use Rattle.receiver_answers.specs.declared.Refusal.TheVariants as R
+use Rattle.receiver_answers.specs.declared.Drop.{Drop}
 use Rattle.receiver_answers.specs.declared.Answer.{Answer}
 use Rattle.receiver_answers.specs.declared.Answer.TheVariants as A
 use Rattle.receiver_answers.specs.Answers.{refusal_number, drop_number, says, said}
@@ -39,6 +41,12 @@ from_ten_writes n h = simp (ne_eqb n 1 (λ e. omega arith), ne_eqb n 2 (λ e. om
 pub refused_writes : (fault : Fault) → writes (fault_number fault) ≡ false
 refused_writes fault = from_ten_writes (fault_number fault) (refusal_from_ten (R.Head fault))
 
+pub refusal_writes : (why : Refusal) → false ≡ writes (refusal_number why)
+refusal_writes why = sym (from_ten_writes (refusal_number why) (refusal_from_ten why))
+
+pub drop_writes : (why : Drop) → false ≡ writes (drop_number why)
+drop_writes why = sym (from_ten_writes (drop_number why) (drop_from_ten why))
+
 -- the answers that keep the data are those whose number has them written
 pub keeps_writes : (a : Answer) → keeps a ≡ writes (said a).number
 keeps_writes (A.Express n) = refl
@@ -46,8 +54,8 @@ keeps_writes (A.Delivered n) = refl
 keeps_writes (A.Kept n) = refl
 keeps_writes A.VerifyHeard = refl
 keeps_writes A.RespondHeard = refl
-keeps_writes (A.Refused why) = sym (from_ten_writes (refusal_number why) (refusal_from_ten why))
-keeps_writes (A.Dropped why) = sym (from_ten_writes (drop_number why) (drop_from_ten why))
+keeps_writes (A.Refused why) = refusal_writes why
+keeps_writes (A.Dropped why) = drop_writes why
 
 -- data that are written end behind their own number, within the longest body
 abbrev pub Within : List ℕ → Step → Type 0
