@@ -14,7 +14,7 @@ NINE = b"123456789"
 NINE_FCS = bytes.fromhex("2639F4CB")
 NINE_MCRC = bytes.fromhex("26390B34")
 # What IEEE 802.3br itself would send, and document 01 does not.
-NINE_STANDARD_MCRC = bytes.fromhex("D9C6F4CB")
+NINE_FIRST_TWO_INVERTED = bytes.fromhex("D9C6F4CB")
 
 
 def zlib_fcs(octets):
@@ -135,7 +135,7 @@ class StandardMcrc(unittest.TestCase):
     """The mCRC of IEEE 802.3br, which no receiver here takes."""
 
     def test_the_nine_octets(self):
-        self.assertEqual(crc.standard_mcrc(NINE), NINE_STANDARD_MCRC)
+        self.assertEqual(crc.standard_mcrc(NINE), NINE_FIRST_TWO_INVERTED)
 
     def test_against_zlib(self):
         message = Chance(10).octets(1518)
@@ -161,7 +161,7 @@ class Endings(unittest.TestCase):
     def test_the_nine_octets(self):
         self.assertEqual(crc.ending(0xFFFFFFFF, NINE + NINE_FCS), crc.Done(9))
         self.assertEqual(crc.ending(0xFFFFFFFF, NINE + NINE_MCRC), crc.More(9, 0x340BC6D9))
-        self.assertEqual(crc.ending(0xFFFFFFFF, NINE + NINE_STANDARD_MCRC), crc.Damaged())
+        self.assertEqual(crc.ending(0xFFFFFFFF, NINE + NINE_FIRST_TWO_INVERTED), crc.Damaged())
         self.assertEqual(crc.ending(0xFFFFFFFF, NINE + NINE_FCS[::-1]), crc.Damaged())
 
     def test_a_wrong_bit_anywhere(self):
