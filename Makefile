@@ -17,14 +17,14 @@ project := "$$(dirname -- "$$SEATPORT_MAKEFILE")"
 empty :=
 folder := $(subst $(empty) ,\ ,$(patsubst %Makefile,%,$(MAKEFILE_LIST)))
 
-.PHONY: help list holds capture test prove vectors drawings
+.PHONY: help list holds capture captures test prove vectors drawings
 
 help: ## shows these lines
 	@cd $(project) && sed -n 's/^\([a-z][a-z-]*\):.*## /\1 /p' Makefile $(INCLUDED) | \
 	    while read -r target words; do printf 'make %-9s %s\n' "$$target" "$$words"; done
 
 # Who names a file as a further goal would be shown the sample in its place.
-ifneq (,$(filter list holds capture,$(MAKECMDGOALS)))
+ifneq (,$(filter list holds capture captures,$(MAKECMDGOALS)))
 ifneq (1,$(words $(MAKECMDGOALS)))
 $(error A file is named so: make list TRACE=row.trace, make holds LIST=hall.gates, make capture TRACE=row.trace)
 endif
@@ -37,8 +37,11 @@ list: ## lists the sample that ships with the project, with TRACE=file another t
 holds: ## lists the holds and releases of a sample gate control list, with LIST=file of another; proves and builds what is missing
 	@$(project)/scripts/holds $(list)
 
-capture: ## writes two captures of the sample, for Wireshark and for keeping, with TRACE=file of another trace; proves and builds what is missing
+capture: ## writes the sample as a capture for Wireshark, with TRACE=file another trace, beside that; proves and builds what is missing
 	@$(project)/scripts/capture $(trace)
+
+captures: ## writes two captures of the sample, for eyes and for keeping, with TRACE=file of another trace; proves and builds what is missing
+	@$(project)/scripts/captures $(trace)
 
 test: ## the gate: proves and tests everything, from nothing
 	@$(project)/scripts/gate
@@ -47,7 +50,7 @@ prove: ## the edit loop: proves what changed
 	@cd $(project) && scripts/need-kit && rt all check
 
 vectors: ## makes the stored vectors, traces, schedules and captures anew
-	@cd $(project) && for maker in tests/reference/vectors_*.py tests/reference/traces.py tests/reference/schedules.py tests/reference/captures_files.py; do python3 "$$maker" || exit 1; done
+	@cd $(project) && for maker in tests/reference/vectors_*.py tests/reference/traces.py tests/reference/schedules.py tests/reference/captures_files.py tests/reference/eyes_files.py; do python3 "$$maker" || exit 1; done
 
 drawings: ## draws the pictures of the documents anew
 	@cd $(project) && scripts/draw-press && scripts/draw-crates

@@ -465,14 +465,6 @@ static void convert(const char *name, uint32_t (*call)(const uint8_t *, uint64_t
 	print_lent(room, 1);
 }
 
-/* A question on a capture for eyes, for which there is no call in C (docs/DECISIONS.md, 96), is read and not answered. */
-static void pass_over(void)
-{
-	size_t n = run_length(LONGEST_CAPTURE);
-	lend(1);
-	take(given.octets, n);
-}
-
 static void captures_questions(void)
 {
 	for (int question; (question = getchar()) != EOF;) {
@@ -482,9 +474,6 @@ static void captures_questions(void)
 			break;
 		case 2:
 			convert("read", seatport_capture_read);
-			break;
-		case 3:
-			pass_over();
 			break;
 		default:
 			fail("no such question");

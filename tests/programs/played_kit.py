@@ -1,12 +1,6 @@
-"""A kit that is played: an rt of the test's own, and beside it what scripts/run-program looks for where the machine is no x86-64."""
+"""A kit that is played: an rt of the test's own."""
 
 import os
-import platform
-import shutil
-from pathlib import Path
-
-# Called as the emulator is, with the loader and its folder before the program: a program that a script plays needs neither.
-NO_EMULATOR = '#!/bin/sh\nshift 3\nexec "$@"\n'
 
 
 def executable(path, script):
@@ -21,16 +15,14 @@ def path_with(rt):
 
 
 def for_real_programs(folder, script):
-    """The environment of a kit in this folder whose rt is played by a script and whose emulator is the real one."""
+    """The environment of a kit in this folder whose rt is played by a script, and has a real program built where that does not end it."""
     rt = folder / "kit" / "bin" / "rt"
-    executable(rt, f"#!/bin/sh\n{script}\n")
-    (folder / "kit" / "on").symlink_to(Path(shutil.which("rt")).resolve().parents[1] / "on")
+    executable(rt, f"#!/bin/sh\n{script}\necho 'rt: running the program'\n")
     return path_with(rt)
 
 
 def for_played_programs(folder):
-    """The environment of a kit in this folder under which a program may be a script, and which calls each one proved."""
+    """The environment of a kit in this folder under which a program may be a script."""
     rt = folder / "kit" / "bin" / "rt"
-    executable(rt, "#!/bin/sh\n")
-    executable(folder / "kit" / "on" / platform.machine() / "toolchain" / "bin" / "qemu-x86_64", NO_EMULATOR)
+    executable(rt, "#!/bin/sh\nexit 1\n")
     return path_with(rt)

@@ -1,11 +1,10 @@
 """The commands around the programs: scripts/list, scripts/holds, scripts/capture, scripts/run-program and make, wherever called and whatever a
 file is named.
 
-mmlist, mmholds and mmpcap must be built and unchanged (rt check mmlist mmholds mmpcap). Where rt itself matters, a stand-in is on the path
+mmlist, mmholds and mmpcap must be built and unchanged (scripts/prove mmlist mmholds mmpcap). Where rt itself matters, a stand-in is on the path
 before it (played_kit.py).
 """
 
-import contextlib
 import os
 import re
 import select
@@ -20,15 +19,15 @@ from pathlib import Path
 
 import played_kit
 import running
-from capture_octets import capture_of, contents_of, shown
+from capture_octets import capture_of, contents_of
 
 ROOT = Path(__file__).resolve().parents[2]
 TRACES = ROOT / "tests" / "traces"
-# Where the plain capture of the sample is written.
+# Where the capture of the sample is written.
 CAPTURE = ROOT / "target" / "sample.pcap"
 
-# A line of rt.
-UNCHANGED = "echo 'rt: trace proved (unchanged since it was last proved)'"
+# A line of rt on a crate of which nothing was left to check.
+UNCHANGED = "echo 'crate trace: modules loaded=78 checked=0'"
 
 # Names that a shell or make would take apart, or take for something else.
 NAMES = ("plain.file", "it's.file", 'a "b".file', "two  words.file", "$HOME.file", "$(x) `y`.file", "a#b.file",
@@ -58,21 +57,6 @@ class Commands(unittest.TestCase):
                                    stderr=subprocess.PIPE, start_new_session=True, **how)
         self.addCleanup(running.end, process)
         return process
-
-    @contextlib.contextmanager
-    def fed_pipe(self, octets):
-        """Meanwhile there is a pipe that gives these octets to whoever opens it, which must be done."""
-        pipe = self.folder / "pipe"
-        os.mkfifo(pipe)
-        # A daemon, as it would wait for ever for a command that does not open the pipe.
-        feeder = threading.Thread(target=pipe.write_bytes, args=[octets], daemon=True)
-        feeder.start()
-        try:
-            yield
-            feeder.join(60)
-            self.assertFalse(feeder.is_alive(), "nobody opened the pipe")
-        finally:
-            pipe.unlink()
 
     def next_line(self, stream):
         self.assertTrue(select.select([stream], [], [], 60)[0], "no line came within a minute")
@@ -135,62 +119,44 @@ class Holds(Given):
     refused = ("tests/schedules/length_4.gates", b"", b"mmholds: entry 5 has a length other than 5 (62).\n")
 
 
-def for_eyes(capture):
-    """The capture for eyes beside a plain one."""
-    return capture.with_name(capture.name.removesuffix(".pcap") + ".eyes.pcap")
-
-
 class Capture(Given):
-    """The captures are files, and the command says where, and what each is for."""
+    """The capture is a file, and the command says where."""
 
     word, variable, program = "capture", "TRACE", "mmpcap"
     unread, empty = List.unread, List.empty
-    two = "The captures of one trace are made at a time, as in: scripts/capture row.trace"
-    told = (rb"(?P<eyes>.+) is written for eyes: its fragments, V and R have the check octets that the viewer expects, not those of the wire; "
-            rb"open it in Wireshark, or list it with: tshark -2 -n -r (?P=eyes)\n"
-            rb"(?P<plain>.+) is written for keeping: it has the octets of the wire, unaltered, and mmpcap reads them back; "
-            rb"the viewer calls its fragments, V and R bad\.\n")
+    two = "One capture is made at a time, as in: scripts/capture row.trace"
 
     def setUp(self):
-        super().setUp()
-        for capture in (CAPTURE, for_eyes(CAPTURE)):
-            self.put_aside(capture)
-
-    def put_aside(self, capture):
         """A capture of the sample that somebody has is put aside, and back when the test is over; no other is left there."""
-        aside = capture.with_name(f"{capture.name}.aside")
+        super().setUp()
+        aside = CAPTURE.with_name("sample.pcap.aside")
         # One that stands aside already is from a test that was killed, and so is what stands in its place.
-        if os.path.lexists(capture) and not os.path.lexists(aside):
-            capture.rename(aside)
+        if os.path.lexists(CAPTURE) and not os.path.lexists(aside):
+            CAPTURE.rename(aside)
 
         def put_back():
-            capture.unlink(missing_ok=True)
+            CAPTURE.unlink(missing_ok=True)
             if os.path.lexists(aside):
-                aside.rename(capture)
+                aside.rename(CAPTURE)
 
         self.addCleanup(put_back)
 
     def sample(self):
-        """The trace that ships with the project, its plain capture and its capture for eyes."""
-        folder = ROOT / "crates" / "mmlist"
-        octets = (folder / "stdin").read_bytes()
-        contents = list(contents_of(octets))
-        return octets, capture_of(contents), capture_of(shown(contents, (folder / "stdout").read_bytes()))
+        """The trace that ships with the project, and its capture."""
+        octets = (ROOT / "crates" / "mmlist" / "stdin").read_bytes()
+        return octets, capture_of(contents_of(octets))
 
     def listed(self, output):
-        """The output tells the sample's captures alone; the plain one's path. Both are taken away again."""
-        told = re.fullmatch(self.told, output)
+        """The output says the name of the sample's capture alone; that file, which is taken away again."""
+        told = re.fullmatch(rb"(.+) is written: open it in Wireshark, or list it with: tshark -r (.+)\n", output)
         self.assertTrue(told, output)
-        capture, eyes = (self.named(told[name]) for name in ("plain", "eyes"))
-        self.assertEqual(eyes, for_eyes(capture))
-        self.assertEqual((capture.read_bytes(), eyes.read_bytes()), self.sample()[1:])
+        # A shell takes the name out of the command that is told, as it would where that is copied.
+        words = [self.run_in_folder(["bash", "-c", b'printf "%s" ' + word]).stdout for word in told.groups()]
+        self.assertEqual(words[0], words[1])
+        capture = self.folder / os.fsdecode(words[0])
+        self.assertEqual(capture.read_bytes(), self.sample()[1])
         capture.unlink()
-        eyes.unlink()
         return capture
-
-    def named(self, word):
-        """The path that a shell takes out of a word, as it would where a command with it is copied."""
-        return self.folder / os.fsdecode(self.run_in_folder(["bash", "-c", b'printf "%s" ' + word]).stdout)
 
 
 class Names:
@@ -264,32 +230,16 @@ class NamesOfCaptures(Names, Capture):
                "row.TRACE": "row.TRACE.pcap", "row.pcap": "row.pcap.pcap", "rowtrace": "rowtrace.pcap", ".trace": ".pcap",
                "sub/row.trace": "sub/row.pcap", "sub.trace/row": "sub.trace/row.pcap", "-x.trace": "-x.pcap", "./-": "./-.pcap",
                "two  words.trace": "two  words.pcap", "it's.trace": "it's.pcap", "$HOME.trace": "$HOME.pcap",
-               "two\nlines.trace": "two\nlines.pcap", "a line\n": "a line\n.pcap", "eyes.trace": "eyes.pcap", "roweyes": "roweyes.pcap",
-               "row.eyes.pcap": "row.eyes.pcap.pcap", "row.Eyes.trace": "row.Eyes.pcap", "sub.eyes/row": "sub.eyes/row.pcap"}
-    # Traces whose plain capture would have the name of another's capture for eyes, and that name.
-    LIKE_EYES = {"row.eyes.trace": "row.eyes.pcap", "row.eyes": "row.eyes.pcap", ".eyes.trace": ".eyes.pcap",
-                 "sub/row.eyes.trace": "sub/row.eyes.pcap", "it's.eyes.trace": "it's.eyes.pcap", "row.eyes.eyes": "row.eyes.eyes.pcap"}
+               "two\nlines.trace": "two\nlines.pcap", "a line\n": "a line\n.pcap"}
 
     def test_endings(self):
-        for folder in ("sub", "sub.trace", "sub.eyes"):
+        for folder in ("sub", "sub.trace"):
             (self.folder / folder).mkdir()
         for name, capture in self.ENDINGS.items():
             (self.folder / name).write_bytes(self.sample()[0])
             for command in self.both(name):
                 with self.subTest(command=command):
                     self.assertEqual(self.lists(command), self.folder / capture)
-
-    def test_the_name_of_a_capture_for_eyes(self):
-        (self.folder / "sub").mkdir()
-        for name, capture in self.LIKE_EYES.items():
-            (self.folder / name).write_bytes(self.sample()[0])
-            before = sorted(self.folder.rglob("*"))
-            sentence = (f"The plain capture of {name} would be {capture}, which is the name of another trace's capture for eyes; "
-                        "give the trace another name.")
-            with self.subTest(name=name):
-                self.refuses(self.script(name), sentence)
-                self.refuses(self.make(name), sentence, status=2)
-                self.assertEqual(sorted(self.folder.rglob("*")), before)
 
     def test_the_sample_stands_in_target(self):
         for command in self.both():
@@ -301,10 +251,10 @@ class NamesOfCaptures(Names, Capture):
         (self.folder / "sub" / "row.trace").write_bytes(self.sample()[0])
         done = self.run_in_folder([*self.make("row.trace"), "-C", "sub"])
         self.assertEqual((done.returncode, done.stderr), (0, b""))
-        self.assertEqual(sorted(path.name for path in (self.folder / "sub").iterdir()), ["row.eyes.pcap", "row.pcap", "row.trace"])
+        self.assertEqual(sorted(path.name for path in (self.folder / "sub").iterdir()), ["row.pcap", "row.trace"])
 
     def test_standard_input_has_no_name(self):
-        sentence = ("A capture needs a name, and standard input has none to go by: scripts/run-program mmpcap show - row.eyes.pcap "
+        sentence = ("A capture needs a name, and standard input has none to go by: scripts/run-program mmpcap write - row.pcap "
                     "gives it one.")
         for name in ("-", "/dev/stdin"):
             with self.subTest(name=name):
@@ -315,9 +265,15 @@ class NamesOfCaptures(Names, Capture):
 
 class Pipes:
     def test_a_named_pipe(self):
+        pipe = self.folder / "pipe"
+        os.mkfifo(pipe)
         for command in self.both("pipe"):
-            with self.subTest(command=command), self.fed_pipe(self.sample()[0]):
+            with self.subTest(command=command):
+                # A daemon, as it would wait for ever for a command that does not open the pipe.
+                feeder = threading.Thread(target=pipe.write_bytes, args=[self.sample()[0]], daemon=True)
+                feeder.start()
                 self.lists(command)
+                feeder.join()
 
 
 class Streams(Pipes):
@@ -371,96 +327,33 @@ class StreamsOfLists(Streams, Holds):
 
 
 class FilesOfCaptures(Pipes, Capture):
-    REFUSED = TRACES / "refused_53.trace"
-    CUT_OFF = "mmpcap: record 7 is cut off: the trace ends inside it (53)."
-    TAKEN = "mmpcap: the name of the capture is taken by what is no file that may be written."
-    HALF = "row.pcap is written; row.eyes.pcap is not, and an old one is as it was."
-
-    def setUp(self):
-        super().setUp()
-        self.file("row.trace", self.sample()[0])
-        # Where what is kept for a while is kept.
-        self.kept = self.folder / "kept"
-        self.kept.mkdir()
-
-    def file(self, name, octets):
-        (self.folder / name).write_bytes(octets)
-
-    def run_in_folder(self, command, **how):
-        return super().run_in_folder(command, **{"env": {**os.environ, "TMPDIR": str(self.kept)}, **how})
-
-    def all_files(self):
-        """What is in the folder, and what each file holds."""
-        return {path.name: path.read_bytes() if path.is_file() else None for path in self.folder.iterdir()}
-
-    def fails(self, name, *sentences, written=None):
-        """Of a trace both commands say these sentences alone, and write nothing, or this; nothing is kept."""
-        for command, status, of_make in zip(self.both(name), (1, 2), (0, 1)):
-            before = self.all_files()
-            with self.subTest(command=command):
-                done = self.run_in_folder(command)
-                lines = done.stderr.decode().splitlines()
-                self.assertEqual((done.returncode, done.stdout, lines[:len(sentences)], len(lines)),
-                                 (status, b"", list(sentences), len(sentences) + of_make))
-                self.assertEqual(self.all_files(), before | (written or {}))
-                self.assertEqual(list(self.kept.iterdir()), [])
+    def fails(self, command, sentence, status):
+        """The command says this sentence alone, and that nothing is written."""
+        before = sorted(path.name for path in self.folder.iterdir())
+        self.refuses(command, sentence, status)
+        self.assertEqual(sorted(path.name for path in self.folder.iterdir()), before)
 
     def test_a_refused_trace(self):
-        shutil.copy(self.REFUSED, self.folder / "row.trace")
-        self.fails("row.trace", self.CUT_OFF)
-        self.file("row.pcap", b"old")
-        self.file("row.eyes.pcap", b"old, for eyes")
-        self.fails("row.trace", self.CUT_OFF)
+        shutil.copy(TRACES / "refused_53.trace", self.folder / "row.trace")
+        sentence = "mmpcap: record 7 is cut off: the trace ends inside it (53)."
+        for command, status in zip(self.both("row.trace"), (1, 2)):
+            with self.subTest(command=command):
+                self.fails(command, sentence, status)
+        (self.folder / "row.pcap").write_bytes(b"old")
+        self.fails(self.script("row.trace"), sentence, 1)
+        self.assertEqual((self.folder / "row.pcap").read_bytes(), b"old")
 
-    def test_old_captures_are_replaced(self):
-        for old in ("row.pcap", "row.eyes.pcap"):
-            self.file(old, b"old" * 100_000)
+    def test_an_old_capture_is_replaced(self):
+        (self.folder / "row.trace").write_bytes(self.sample()[0])
+        (self.folder / "row.pcap").write_bytes(b"old" * 100_000)
         self.lists(self.script("row.trace"))
 
     def test_a_name_that_is_taken(self):
+        (self.folder / "row.trace").write_bytes(self.sample()[0])
         (self.folder / "row.pcap").mkdir()
-        self.file("row.eyes.pcap", b"old, for eyes")
-        self.fails("row.trace", self.TAKEN)
-
-    def test_a_name_for_eyes_that_is_taken(self):
-        (self.folder / "row.eyes.pcap").mkdir()
-        self.fails("row.trace", self.TAKEN, self.HALF, written={"row.pcap": self.sample()[1]})
-
-    def test_a_pipe_is_kept_for_no_longer_than_it_is_needed(self):
-        with self.fed_pipe(self.sample()[0]):
-            self.lists(self.script("pipe"))
-        self.assertEqual(list(self.kept.iterdir()), [])
-        with self.fed_pipe(self.REFUSED.read_bytes()):
-            self.refuses(self.script("pipe"), self.CUT_OFF)
-        self.assertEqual(list(self.kept.iterdir()), [])
-        self.assertFalse((self.folder / "pipe.pcap").exists())
-
-    def test_only_a_pipe_is_kept(self):
-        surroundings = {**os.environ, "TMPDIR": str(self.folder / "missing")}
-        self.lists(self.script("row.trace"), env=surroundings)
-        before = self.all_files()
-        os.mkfifo(self.folder / "pipe")
-        done = self.run_in_folder(self.script("pipe"), env=surroundings)
-        self.assertEqual((done.returncode, done.stdout, len(done.stderr.splitlines())), (1, b"", 1))
-        self.assertEqual(self.all_files(), before | {"pipe": None})
-
-    def test_a_signal_while_a_pipe_is_read(self):
-        os.mkfifo(self.folder / "pipe")
-        opened, ended = threading.Event(), threading.Event()
-        self.addCleanup(ended.set)
-
-        def keep_open():
-            with open(self.folder / "pipe", "wb"):
-                opened.set()
-                ended.wait()
-
-        threading.Thread(target=keep_open, daemon=True).start()
-        process = self.begun(self.script("pipe"), env={**os.environ, "TMPDIR": str(self.kept)})
-        self.assertTrue(opened.wait(60), "nobody opened the pipe")
-        self.assertNotEqual(list(self.kept.iterdir()), [])
-        os.killpg(process.pid, signal.SIGTERM)
-        process.communicate(timeout=60)
-        self.assertEqual(list(self.kept.iterdir()), [])
+        for command, status in zip(self.both("row.trace"), (1, 2)):
+            with self.subTest(command=command):
+                self.fails(command, "mmpcap: the name of the capture is taken by what is no file that may be written.", status)
 
 
 class Proving:
@@ -469,8 +362,8 @@ class Proving:
     def setUp(self):
         super().setUp()
         self.proving = f"Proving and building {self.program}; what was proved before is not proved again.\n".encode()
-        self.proved = f"rt: {self.program} proved (3 s)\n".encode()
-        self.tell_proved = f"echo 'rt: {self.program} proved (3 s)'"
+        self.proved = f"crate {self.program}: modules loaded=2 checked=31\n".encode()
+        self.tell_proved = f"echo '{self.proved.decode().strip()}'"
 
     def listing_with(self, script):
         """The script, begun, with this as rt."""
@@ -483,14 +376,14 @@ class Proving:
         self.listed(output)
 
     def test_nothing_to_prove_is_not_said(self):
-        self.ends(self.listing_with(f"{UNCHANGED}; echo 'rt: ok, 1 crates proved'"), b"")
+        self.ends(self.listing_with(f"{UNCHANGED}; echo 'rt: chose --jobs 2 for trace'"), b"")
 
     def test_it_is_the_program_that_is_proved(self):
-        # The stand-in finds a crate by its name where it is called, as rt would.
-        self.ends(self.listing_with(f'[ "$*" = "check {self.program}" ] && [ -d "crates/$2" ]'), b"")
+        # The stand-in goes by the folder in which it is called, as rt would.
+        self.ends(self.listing_with(f'[ "$*" = run ] && [ "${{PWD%/*/*}}/crates/{self.program}" = "$PWD" ] || exit 1'), b"")
 
     def test_what_is_proved_is_said(self):
-        self.ends(self.listing_with(f"{UNCHANGED}; echo logic=proved; {self.tell_proved}; echo 'rt: ok, 2 crates proved'"),
+        self.ends(self.listing_with(f"{UNCHANGED}; echo logic=proved; {self.tell_proved}; echo logic=proved"),
                   self.proving + self.proved)
 
     def test_it_is_said_while_a_crate_is_proved(self):
@@ -502,7 +395,7 @@ class Proving:
         self.ends(process, self.proved)
 
     def test_a_proof_that_fails(self):
-        failed = f"rt: {self.program} NOT PROVED (exit 1, 3 s)\n".encode()
+        failed = f"fn {self.program}::main: not proved\n".encode()
         unbuilt = f"{self.program} could not be proved, so it was not built.\n".encode()
         process = self.listing_with(f"echo 'error: no'; printf '{failed.decode()}'; exit 1")
         self.assertEqual((*process.communicate(timeout=60), process.returncode),
@@ -526,15 +419,14 @@ class ProvingMmpcap(Proving, Capture):
     pass
 
 
-class Played(Commands):
-    """A script in a project of its own, with a program that a shell plays."""
-
-    name = ""
+class RunProgram(Commands):
+    """scripts/run-program in a project of its own, with a program that a shell plays."""
 
     def setUp(self):
         super().setUp()
         (self.folder / "target" / "bin").mkdir(parents=True)
         shutil.copytree(ROOT / "scripts", self.folder / "scripts")
+        self.command = [str(self.folder / "scripts" / "run-program"), "talks"]
         self.environment = played_kit.for_played_programs(self.folder)
 
     def run_in_folder(self, command, **how):
@@ -544,59 +436,7 @@ class Played(Commands):
         return super().begun(command, env=self.environment, **how)
 
     def program(self, script):
-        played_kit.executable(self.folder / "target" / "bin" / self.name, f"#!/bin/sh\n{script}\n")
-
-
-class StepsOfCapture(Played):
-    """What mmpcap is told by scripts/capture, and what is said where it fails at a step."""
-
-    name = "mmpcap"
-    # A pipe is read only once, so that its trace is read back from the plain capture.
-    STEPS = {"row.trace": ["write", "show"], "pipe": ["write", "read", "show"]}
-
-    def setUp(self):
-        super().setUp()
-        (self.folder / "row.trace").write_bytes(b"a trace")
-        (self.folder / "kept").mkdir()
-        self.environment["TMPDIR"] = str(self.folder / "kept")
-
-    def captured(self, name, failing="none"):
-        """The steps of which a capture is made by an mmpcap that copies, and fails at one; what is written and said, and the status."""
-        self.program(f"""echo "$1" >>steps
-                         if [ "$1" = {failing} ]; then echo no >&2; exit; fi
-                         if [ "$2" != - ]; then exec <"$2"; fi
-                         cat >"$3" """)
-        with self.fed_pipe(b"a trace") if name == "pipe" else contextlib.nullcontext():
-            done = self.run_in_folder([str(self.folder / "scripts" / "capture"), name])
-        steps = (self.folder / "steps").read_text().split()
-        (self.folder / "steps").unlink()
-        self.assertEqual(list((self.folder / "kept").iterdir()), [])
-        return steps, len(done.stdout.splitlines()), done.stderr.decode().splitlines(), done.returncode
-
-    def test_each_step(self):
-        for name, steps in self.STEPS.items():
-            with self.subTest(name=name):
-                self.assertEqual(self.captured(name), (steps, 2, [], 0))
-                capture = self.folder / f"{name.removesuffix('.trace')}.pcap"
-                self.assertEqual([path.read_bytes() for path in (capture, for_eyes(capture))], [b"a trace"] * 2)
-
-    def test_a_step_that_fails(self):
-        for name, steps in self.STEPS.items():
-            before = name.removesuffix(".trace")
-            half = f"{before}.pcap is written; {before}.eyes.pcap is not, and an old one is as it was."
-            for number, step in enumerate(steps):
-                with self.subTest(name=name, step=step):
-                    self.assertEqual(self.captured(name, step), (steps[:number + 1], 0, ["no", half] if number else ["no"], 1))
-
-
-class RunProgram(Played):
-    """scripts/run-program."""
-
-    name = "talks"
-
-    def setUp(self):
-        super().setUp()
-        self.command = [str(self.folder / "scripts" / "run-program"), "talks"]
+        played_kit.executable(self.folder / "target" / "bin" / "talks", f"#!/bin/sh\n{script}\n")
 
     def ends(self, script, status, written, said, command=None):
         self.program(script)
@@ -643,8 +483,8 @@ class RunProgram(Played):
         nameless = "run-program: the name of a program is needed, as in: scripts/run-program mmholds hall.gates"
         self.refuses(self.command[:1], nameless)
         self.refuses([self.command[0], "", "hall.gates"], nameless)
-        self.refuses([*self.command, "hall.gates"], "run-program: there is no target/bin/talks; rt check talks proves and builds it.")
-        self.refuses(self.command, "run-program: there is no target/bin/talks; rt check talks proves and builds it.")
+        self.refuses([*self.command, "hall.gates"], "run-program: there is no target/bin/talks; scripts/prove talks proves and builds it.")
+        self.refuses(self.command, "run-program: there is no target/bin/talks; scripts/prove talks proves and builds it.")
 
 
 class Help(Commands):

@@ -1,6 +1,6 @@
 """Every program where its input or its output fails: one sentence on standard error, and the program is at its end.
 
-The programs must be built (rt check). They have no exit status; scripts/run-program gives 1 where one said something.
+The programs must be built (scripts/prove). They have no exit status; scripts/run-program gives 1 where one said something.
 test_commands.py has the commands around them.
 """
 
@@ -37,7 +37,9 @@ BROKEN = {
     "test_gates": ("00", "04", "ff", "01 0000 0000", "01 0100 0000 00", "02 0100 0000 00" + "00" * 11, "03 0000",
                       "01 0000 2d01 00", "02 0000 0108 00", "03 0000 2d01 00", "01 0108 0000 00" + "00" * 2049,
                       "02 2d01 0000 00" + "00" * 3612, "03 0108 0000 00" + "00" * 2049),
-    "test_captures": ("00", "04", "ff", *(f"{kind} {rest}" for kind in ("01", "02", "03") for rest in (
+    "test_captures": ("00", "03", "ff", "01 0000 0000", "02 0000 0000", "01 0100 0000 00", "02 0200 0000 00 00", "01 0000 0120 00",
+                         "02 0000 0120 00", "01 0120 0000 00" + "00" * 8193, "02 0120 0000 00" + "00" * 8193),
+    "test_eyes": ("00", "04", "ff", *(f"{kind} {rest}" for kind in ("01", "02", "03") for rest in (
                          "", "0000 0000", "0100 0000 00", "0200 0000 00 00", "0000 0120 00", "0120 0000 00" + "00" * 8193))),
 }
 

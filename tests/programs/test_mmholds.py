@@ -1,6 +1,6 @@
 """mmholds as a program: every stored list, however it comes, and every sentence.
 
-The program must be built (rt check mmholds). rt itself holds to the reference what mmholds lists for the sample; here it lists the
+The program must be built (scripts/prove mmholds). rt itself holds to the reference what mmholds lists for the sample; here it lists the
 schedules of tests/schedules, by name and on standard input, in pieces, from inputs without an end and from inputs that fail. The same
 checks are run on programs that are wrong in one thing each (played_mmholds.py), and must tell every one of them.
 

@@ -1,6 +1,6 @@
 """mmlist as a program: every stored trace, however it comes.
 
-The program must be built (rt check mmlist). rt itself holds to the reference what mmlist lists for the sample, and test_example
+The program must be built (scripts/prove mmlist). rt itself holds to the reference what mmlist lists for the sample, and test_example
 for document 01's own example; here mmlist lists the traces of tests/traces, is fed by pipes in pieces, and with 100 million octets,
 for which its memory must not grow. test_failures.py has inputs and outputs that fail.
 """

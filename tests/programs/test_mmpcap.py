@@ -1,8 +1,8 @@
-"""mmpcap as a program: traces written as captures, shown as captures for eyes and read back, every sentence, and what becomes of the file it makes.
+"""mmpcap as a program: traces written as captures and read back, every sentence, and what becomes of the file it makes.
 
-The program must be built (rt check mmpcap). Most tests go every way, from a trace to its two captures and from a capture back. The reference says
-what the stored captures of tests/captures and refused traces give; capture_octets.py lays the octets of all others. test_failures.py has the
-inputs that fail for any program, test_commands.py the command around mmpcap.
+The program must be built (scripts/prove mmpcap). Most tests go both ways, from a trace to its capture and back. The reference says what the stored
+captures of tests/captures and refused traces give; capture_octets.py lays the octets of all others. test_failures.py has the inputs that fail
+for any program, test_commands.py the command around mmpcap.
 """
 
 import contextlib
@@ -23,21 +23,18 @@ from typing import NamedTuple
 
 import inputs
 import running
-from capture_octets import (EYES, MAGIC, WIRE, capture_of, contents_of, file_header, record_header, row, shown, trace_header,
-                            trace_of)
+from capture_octets import MAGIC, capture_of, contents_of, file_header, record_header, trace_header, trace_of
 
 ROOT = Path(__file__).resolve().parents[2]
 COMMAND = [str(ROOT / "scripts" / "run-program"), "mmpcap"]
 TRACES = ROOT / "tests" / "traces"
 CAPTURES = ROOT / "tests" / "captures"
-SAMPLE = ROOT / "crates" / "mmlist"
+SAMPLE = ROOT / "crates" / "mmlist" / "stdin"
 
-# Contents of every length that matters, which are no mFrames, behind mFrames of every kind.
-LENGTHS = [bytes(place * 7 % 256 for place in range(length)) for length in (72, 0, 1, 255, 256, 1599, 1600)]
-CONTENTS, SHOWN = row(WIRE) + LENGTHS, row(EYES) + LENGTHS
+# Contents of every length that matters.
+CONTENTS = [bytes(place * 7 % 256 for place in range(length)) for length in (72, 0, 1, 255, 256, 1599, 1600)]
 
-USE = ("a capture is made from a trace, for eyes too, or read back, as in: mmpcap write row.trace row.pcap, "
-       "mmpcap show row.trace row.eyes.pcap, or: mmpcap read row.pcap row.trace")
+USE = "a capture is made from a trace or read back, as in: mmpcap write row.trace row.pcap, or: mmpcap read row.pcap row.trace"
 SAME = "the trace and the capture have the same name."
 UNOPENED = "the {taken} could not be opened."
 UNREAD = "the {taken} could not be read."
@@ -61,23 +58,9 @@ class Way(NamedTuple):
         return text.format(taken=self.taken, made=self.made)
 
 
-def ways(contents, for_eyes):
-    """Every way, with these contents as they are in a trace and for eyes."""
-    trace, capture = trace_of(contents), capture_of(contents)
-    return (Way("write", "trace", "capture", trace, capture), Way("show", "trace", "capture", trace, capture_of(for_eyes)),
-            Way("read", "capture", "trace", capture, trace))
-
-
-def listed(trace, listing):
-    """Every way, with a trace whose listing says what is for eyes."""
-    contents = list(contents_of(trace.read_bytes()))
-    return ways(contents, shown(contents, listing.read_bytes()))
-
-
-WAYS = WRITE, SHOW, READ = ways(CONTENTS, SHOWN)
-OF_TRACES = (WRITE, SHOW)
-# Every way by its word, with far more than is held at once.
-LONG = {way.word: way for way in listed(TRACES / "long.trace", TRACES / "long.listing")}
+WRITE = Way("write", "trace", "capture", trace_of(CONTENTS), capture_of(CONTENTS))
+READ = Way("read", "capture", "trace", WRITE.result, WRITE.octets)
+WAYS = (WRITE, READ)
 
 
 def state(path):
@@ -99,7 +82,7 @@ def with_mode(path, mode):
         path.chmod(usual)
 
 
-def every_way(test):
+def both_ways(test):
     """The test each way, in a folder of its own that has the file `taken`."""
     @functools.wraps(test)
     def run(self):
@@ -148,26 +131,15 @@ class Octets(Mmpcap):
         self.file(capture, "row.pcap")
         self.makes(READ, "row.pcap", "back.trace", trace)
 
-    def test_an_example_for_eyes_by_hand(self):
-        # A V, and the same with the check octets that the viewer expects, which are wrong on the wire and so stay.
-        on_the_wire, for_eyes = (f"55555555555555 07 {'00' * 60} {check}" for check in ("0889edfb", "f7761204"))
-        self.file(bytes.fromhex(f"4800 0100 {on_the_wire} 4800 0100 {for_eyes}"), "row.trace")
-        self.makes(SHOW, "row.trace", "row.eyes.pcap",
-                   file_header() + bytes.fromhex(f"00000000 00000000 48000000 48000000 {for_eyes}" * 2))
-
-    def test_what_is_for_eyes_is_read_as_it_is(self):
-        self.file(SHOW.result, "row.eyes.pcap")
-        self.makes(READ, "row.eyes.pcap", "back.trace", trace_of(SHOWN))
-
     def test_no_records(self):
         self.file(b"", "row.trace")
-        for way, taken in itertools.product(OF_TRACES, ("row.trace", "/dev/null", "-")):
-            with self.subTest(way=way.word, taken=taken):
-                self.makes(way, taken, "row.pcap", file_header())
+        for taken in ("row.trace", "/dev/null", "-"):
+            with self.subTest(taken=taken):
+                self.makes(WRITE, taken, "row.pcap", file_header())
         self.file(file_header(), "row.pcap")
         self.makes(READ, "row.pcap", "back.trace", b"")
 
-    @every_way
+    @both_ways
     def test_every_length_that_matters(self, way):
         self.makes(way, "taken", "made")
 
@@ -189,18 +161,17 @@ class Stored(Mmpcap):
         return path.read_bytes() if path.exists() else b""
 
     def stored(self, ending):
-        """The names of the files with an ending, which begins at a name's first point."""
-        parted = [path.name.partition(".") for path in CAPTURES.iterdir()]
-        return sorted(name for name, _, rest in parted if rest == ending)
+        return sorted(path.stem for path in CAPTURES.glob(f"*.{ending}"))
 
     def test_there_and_back(self):
         good = [path for path in sorted(TRACES.glob("*.trace")) if not path.stem.startswith("refused")]
         self.assertEqual([path.stem for path in good], ["answers", "empty", "long"])
-        for trace, listing in (*((path, path.with_suffix(".listing")) for path in good), (SAMPLE / "stdin", SAMPLE / "stdout")):
-            for way in listed(trace, listing):
-                with self.subTest(trace=trace.name, way=way.word):
-                    self.file(way.octets, "taken")
-                    self.makes(way, "taken", "made")
+        for path in (*good, SAMPLE):
+            with self.subTest(path=path.name):
+                trace = path.read_bytes()
+                self.makes(WRITE, str(path), "row.pcap", capture_of(contents_of(trace)))
+                self.file(capture_of(contents_of(trace)), "row.pcap")
+                self.makes(READ, "row.pcap", "back.trace", trace)
 
     def test_captures(self):
         for name in self.stored("pcap"):
@@ -216,18 +187,17 @@ class Stored(Mmpcap):
     def test_good_traces(self):
         # What is read from another maker's capture is written as ours.
         names = [name for name in self.stored("trace") if name in self.stored("pcap") and not name.startswith("other_")]
-        self.assertEqual(names, self.stored("eyes.pcap"))
-        self.assertLessEqual({"empty", "empty_record", "lengths", "like_headers", "long", "row"}, set(names))
-        for name, (way, ending) in itertools.product(names, ((WRITE, "pcap"), (SHOW, "eyes.pcap"))):
-            with self.subTest(name=name, way=way.word):
-                self.makes(way, str(CAPTURES / f"{name}.trace"), "row.pcap", (CAPTURES / f"{name}.{ending}").read_bytes())
+        self.assertEqual(names, ["empty", "empty_record", "lengths", "like_headers", "long", "row"])
+        for name in names:
+            with self.subTest(name=name):
+                self.makes(WRITE, str(CAPTURES / f"{name}.trace"), "row.pcap", (CAPTURES / f"{name}.pcap").read_bytes())
 
     def test_refused_traces(self):
-        for name, way in itertools.product(sorted(set(self.stored("trace")) - set(self.stored("pcap"))), OF_TRACES):
-            with self.subTest(name=name, way=way.word):
+        for name in sorted(set(self.stored("trace")) - set(self.stored("pcap"))):
+            with self.subTest(name=name):
                 said = self.said_of(name)
                 self.assertNotEqual(said, b"")
-                self.assertEqual(self.said(way.word, str(CAPTURES / f"{name}.trace"), "row.pcap"), (b"", said))
+                self.assertEqual(self.said("write", str(CAPTURES / f"{name}.trace"), "row.pcap"), (b"", said))
                 self.assertEqual(self.all_files(), {})
 
     def test_every_kind_is_stored(self):
@@ -290,7 +260,7 @@ class Refused(Mmpcap):
         """Each of these, behind good octets, is refused; every second time there is a file of the name already."""
         for text, beginnings in sentences.items():
             for beginning, old in zip(beginnings, itertools.cycle((b"", b"old"))):
-                with self.subTest(way=way.word, text=text, octets=beginning[:24].hex(" "), before=len(before)):
+                with self.subTest(text=text, octets=beginning[:24].hex(" "), before=len(before)):
                     self.file(before + beginning, "taken")
                     (self.folder / "made").unlink(missing_ok=True)
                     if old:
@@ -298,9 +268,8 @@ class Refused(Mmpcap):
                     self.refuses(way, text.format(number))
 
     def test_traces(self):
-        for way in OF_TRACES:
-            self.each(way, BAD_IN_TRACES, number=1)
-            self.each(way, BAD_IN_TRACES, trace_of(CONTENTS[:2]), number=3)
+        self.each(WRITE, BAD_IN_TRACES, number=1)
+        self.each(WRITE, BAD_IN_TRACES, trace_of(CONTENTS[:2]), number=3)
 
     def test_captures(self):
         for order in "<>":
@@ -315,57 +284,53 @@ class Refused(Mmpcap):
                              for text, headers in bad_headers(order).items()})
 
     def test_what_comes_behind_changes_nothing(self):
-        for way in OF_TRACES:
-            self.file(trace_header(1601) + bytes(1601) + trace_header(0, kind=2), "taken")
-            self.refuses(way, "record 1 says that its content is longer than 1,600 octets (51).")
-            self.file(trace_header(0, kind=2) + trace_of(CONTENTS), "taken")
-            self.refuses(way, "record 1 is of a kind other than 1 (52).")
+        self.file(trace_header(1601) + bytes(1601) + trace_header(0, kind=2), "taken")
+        self.refuses(WRITE, "record 1 says that its content is longer than 1,600 octets (51).")
+        self.file(trace_header(0, kind=2) + trace_of(CONTENTS), "taken")
+        self.refuses(WRITE, "record 1 is of a kind other than 1 (52).")
         self.file(file_header() + record_header(stored=1, original=2) + record_header(stored=1601), "taken")
         self.refuses(READ, "record 1 was not stored whole: its stored and its original length differ (76).")
 
     def test_each_takes_its_own_kind_of_file(self):
         # A capture begins with C3D4, over 1,600; four octets of a trace make no magic.
         self.file(READ.octets, "taken")
-        for way in OF_TRACES:
-            self.refuses(way, "record 1 says that its content is longer than 1,600 octets (51).")
+        self.refuses(WRITE, "record 1 says that its content is longer than 1,600 octets (51).")
         self.file(WRITE.octets, "taken")
         self.refuses(READ, next(text for text in bad_headers("<") if text.endswith("(71).")))
 
     def test_a_late_record(self):
-        # So late that some has been written before the refusal.
-        for way in OF_TRACES:
-            self.file(LONG[way.word].octets + b"\x00", "taken")
-            self.refuses(way, "record 20001 is cut off: the trace ends inside its header (50).")
-        self.file(LONG["read"].octets + record_header(stored=5, original=5) + bytes(4), "taken")
-        self.refuses(READ, "record 20001 is cut off: the capture ends inside its content (77).")
+        # Far more than is held at once, so that some has been written before the refusal.
+        contents = list(contents_of((TRACES / "long.trace").read_bytes()))
+        last = len(contents) + 1
+        self.assertEqual(last, 20_001)
+        self.file(trace_of(contents) + b"\x00", "taken")
+        self.refuses(WRITE, f"record {last} is cut off: the trace ends inside its header (50).")
+        self.file(capture_of(contents) + record_header(stored=5, original=5) + bytes(4), "taken")
+        self.refuses(READ, f"record {last} is cut off: the capture ends inside its content (77).")
 
     def test_octets_without_an_end(self):
-        for way in OF_TRACES:
-            self.refuses(way, "record 1 is of a kind other than 1 (52).", taken="/dev/zero")
+        self.refuses(WRITE, "record 1 is of a kind other than 1 (52).", taken="/dev/zero")
         self.refuses(READ, next(text for text in bad_headers("<") if text.endswith("(71).")), taken="/dev/zero")
 
 
 class Words(Mmpcap):
-    def wrong_with(self, word):
-        """What is wrong with a word: too few beside it or too many, its place, its letters."""
-        return ((word,), (word, "taken"), (word, "taken", "made", "more"), (word, "taken", "made", ""), ("taken", word, "made"),
-                *((other, "taken", "made") for other in (word[:-1], word + "s", word.capitalize(), word + " ")))
-
     def test_wrong_words(self):
         self.file(WRITE.octets, "taken")
         before = self.all_files()
-        for words in ((), ("taken", "made"), ("copy", "taken", "made"), ("", "taken", "made"), ("-", "taken", "made"), ("--help",),
-                      ("copy", "taken", "taken"), *itertools.chain.from_iterable(self.wrong_with(way.word) for way in WAYS)):
+        for words in ((), ("write",), ("read",), ("write", "taken"), ("taken", "made"), ("write", "taken", "made", "more"),
+                      ("write", "taken", "made", ""), ("copy", "taken", "made"), ("", "taken", "made"), ("Write", "taken", "made"),
+                      ("writ", "taken", "made"), ("writes", "taken", "made"), ("reads", "taken", "made"), ("rea", "taken", "made"),
+                      ("taken", "write", "made"), ("-", "taken", "made"), ("--help",), ("copy", "taken", "taken")):
             with self.subTest(words=words):
                 self.assertEqual(self.said(*words), (b"", f"mmpcap: {USE}\n".encode()))
         self.assertEqual(self.all_files(), before)
 
-    @every_way
+    @both_ways
     def test_the_same_name(self, way):
         for name in ("taken", "missing", str(self.folder / "taken")):
             self.refuses(way, SAME, taken=name, made=name)
 
-    @every_way
+    @both_ways
     def test_names_that_are_nearly_the_same(self, way):
         for name in ("take", "takem", "taken.", "uaken", "Taken"):
             with self.subTest(name=name):
@@ -376,7 +341,7 @@ class Names(Mmpcap):
     NAMES = ("row.trace", "two  words", "it's", 'a "b"', "$HOME", "--help", "-x", "--", "write", "é", b"\xff\xfe", "two\nlines", "a line\n",
              "a*b?", "back\\slash", "%s%n", " ")
 
-    @every_way
+    @both_ways
     def test_each_name(self, way):
         for name in self.NAMES:
             with self.subTest(name=name):
@@ -384,7 +349,7 @@ class Names(Mmpcap):
                 (self.folder / os.fsdecode(name)).write_bytes(way.octets)
                 self.makes(way, name, "made")
 
-    @every_way
+    @both_ways
     def test_folders(self, way):
         (self.folder / "sub").mkdir()
         for made in ("sub/made", "./made", "sub/../made", str(self.folder / "made")):
@@ -392,7 +357,7 @@ class Names(Mmpcap):
                 self.makes(way, "taken", made)
                 self.makes(way, str(self.folder / "taken"), made)
 
-    @every_way
+    @both_ways
     def test_a_dash_is_standard_input(self, way):
         self.file(b"not this", "-")
         self.makes(way, "-", "made", stdin=inputs.piped([way.octets]))
@@ -401,23 +366,23 @@ class Names(Mmpcap):
         with open(self.folder / "taken", "rb") as file:
             self.makes(way, "-", "made", stdin=file)
 
-    @every_way
+    @both_ways
     def test_a_dash_is_the_name_of_what_is_made(self, way):
         self.makes(way, "taken", "-")
         # Standard input has no name, so that this is not one name twice.
         self.makes(way, "-", "-", stdin=inputs.piped([way.octets]))
 
-    @every_way
+    @both_ways
     def test_a_name_goes_before_standard_input(self, way):
         self.makes(way, "taken", "made", stdin=inputs.piped([b"not this"]))
 
-    @every_way
+    @both_ways
     def test_streams_that_are_not_needed(self, way):
         for redirection in ("<&-", ">&-", ">/dev/full", "<&- >&-"):
             with self.subTest(redirection=redirection):
                 self.makes(way, "taken", "made", redirection=redirection)
 
-    @every_way
+    @both_ways
     def test_the_longest_names(self, way):
         # The file beside has six octets more, as in .part0.
         self.makes(way, "taken", "x" * 249)
@@ -428,7 +393,7 @@ class Names(Mmpcap):
         self.file(way.octets, "y" * 255)
         self.makes(way, "y" * 255, "made")
 
-    @every_way
+    @both_ways
     def test_the_longest_paths(self, way):
         taken, made = "./" * 2044 + "//taken", "./" * 2042 + "/made"
         self.assertEqual((len(taken), len(made)), (4095, 4089))
@@ -436,13 +401,13 @@ class Names(Mmpcap):
         for more in range(1, 7):
             self.refuses(way, NOT_BESIDE, made="./" * 2042 + "/" * more + "/made")
 
-    @every_way
+    @both_ways
     def test_names_of_no_file(self, way):
         for name in ("missing", "", "taken/", "no folder/taken", "x" * 256, "./" * 2045 + "/taken", "x/" * 3000):
             with self.subTest(name=name[:20]):
                 self.refuses(way, UNOPENED, taken=name)
 
-    @every_way
+    @both_ways
     def test_an_empty_name_for_what_is_made(self, way):
         # Any of these sentences will do, but no file may come of it.
         before = self.all_files()
@@ -453,27 +418,27 @@ class Names(Mmpcap):
 
 
 class Inputs(Mmpcap):
-    @every_way
+    @both_ways
     def test_pieces(self, way):
         for size in (2, 3, 5, 15, 23, 25, 1603, 1605, 1615, 1617):
             pieces = [way.octets[place:place + size] for place in range(0, len(way.octets), size)]
             with self.subTest(size=size):
                 self.makes(way, "-", "made", stdin=inputs.in_pieces(pieces))
 
-    @every_way
+    @both_ways
     def test_single_octets(self, way):
         pieces = [way.octets[place:place + 1] for place in range(len(way.octets))]
         self.makes(way, "-", "made", stdin=inputs.in_pieces(pieces))
         self.makes(way, "-", "made", stdin=inputs.piped(pieces))
 
-    @every_way
+    @both_ways
     def test_a_named_pipe(self, way):
         os.mkfifo(self.folder / "pipe")
         # A daemon, as it would wait for ever for a program that does not open the pipe.
         threading.Thread(target=(self.folder / "pipe").write_bytes, args=[way.octets], daemon=True).start()
         self.makes(way, "pipe", "made")
 
-    @every_way
+    @both_ways
     def test_a_read_that_fails(self, way):
         # Between records, in a header and in a content: a file that is not there whole is neither good nor cut.
         for length in (0, 3, 23, len(way.octets) - 1601, len(way.octets) - 1, len(way.octets)):
@@ -481,24 +446,25 @@ class Inputs(Mmpcap):
                 self.refuses(way, UNREAD, taken="-", stdin=inputs.failing_behind(way.octets[:length]))
 
     def test_a_read_that_fails_late(self):
-        for way in LONG.values():
+        octets = (TRACES / "long.trace").read_bytes()
+        for way, given in ((WRITE, octets), (READ, capture_of(contents_of(octets)))):
             with self.subTest(way=way.word):
-                self.refuses(way, UNREAD, taken="-", stdin=inputs.failing_behind(way.octets))
+                self.refuses(way, UNREAD, taken="-", stdin=inputs.failing_behind(given))
 
-    @every_way
+    @both_ways
     def test_a_folder_or_a_closed_input(self, way):
         (self.folder / "folder").mkdir()
         self.refuses(way, UNREAD, taken="folder")
         self.refuses(way, UNREAD, taken="-", redirection="<folder")
         self.refuses(way, UNREAD, taken="-", redirection="<&-")
 
-    @every_way
+    @both_ways
     def test_a_socket_that_is_named(self, way):
         with socket.socket(socket.AF_UNIX) as listening:
             listening.bind(str(self.folder / "socket"))
             self.refuses(way, UNOPENED, taken="socket")
 
-    @every_way
+    @both_ways
     def test_a_terminal(self, way):
         try:
             keyboard, terminal = pty.openpty()
@@ -513,7 +479,7 @@ class Inputs(Mmpcap):
 class Occupied(Mmpcap):
     """Nothing but a file that may be written is replaced."""
 
-    @every_way
+    @both_ways
     def test_a_folder(self, way):
         (self.folder / "made").mkdir()
         (self.folder / "made" / "within").write_bytes(b"old")
@@ -522,7 +488,7 @@ class Occupied(Mmpcap):
             with self.subTest(made=made):
                 self.refuses(way, OCCUPIED, made=made)
 
-    @every_way
+    @both_ways
     def test_a_link(self, way):
         self.file(b"old", "elsewhere")
         (self.folder / "folder").mkdir()
@@ -532,12 +498,12 @@ class Occupied(Mmpcap):
             with self.subTest(place=place):
                 self.refuses(way, OCCUPIED)
 
-    @every_way
+    @both_ways
     def test_a_pipe(self, way):
         os.mkfifo(self.folder / "made")
         self.refuses(way, OCCUPIED)
 
-    @every_way
+    @both_ways
     def test_a_pipe_that_is_read(self, way):
         os.mkfifo(self.folder / "made")
         reader = os.open(self.folder / "made", os.O_RDONLY | os.O_NONBLOCK)
@@ -545,13 +511,13 @@ class Occupied(Mmpcap):
         self.refuses(way, OCCUPIED)
         self.assertEqual(os.read(reader, 1), b"")
 
-    @every_way
+    @both_ways
     def test_a_socket(self, way):
         with socket.socket(socket.AF_UNIX) as listening:
             listening.bind(str(self.folder / "made"))
             self.refuses(way, OCCUPIED)
 
-    @every_way
+    @both_ways
     def test_a_device(self, way):
         try:
             # A null device of the test's own.
@@ -576,12 +542,12 @@ class Modes(Mmpcap):
         """What the command says that is given no words."""
         return subprocess.run(self.command, cwd=self.folder, capture_output=True, timeout=self.patience, check=False).stderr
 
-    @every_way
+    @both_ways
     def test_a_file_that_may_not_be_written(self, way):
         self.file(b"old", "made").chmod(0o444)
         self.refuses(way, OCCUPIED)
 
-    @every_way
+    @both_ways
     def test_a_folder_that_may_not_be_written_or_searched(self, way):
         (self.folder / "sub").mkdir()
         self.file(b"old", "sub/old")
@@ -590,7 +556,7 @@ class Modes(Mmpcap):
             with self.subTest(mode=oct(mode), made=made):
                 self.refuses(way, NOT_BESIDE, made=made, meanwhile=with_mode(self.folder / "sub", mode))
 
-    @every_way
+    @both_ways
     def test_a_file_that_may_not_be_read(self, way):
         closed = self.file(WRITE.octets, "closed")
         self.refuses(way, UNOPENED, taken="closed", meanwhile=with_mode(closed, 0o200))
@@ -599,13 +565,13 @@ class Modes(Mmpcap):
 class Beside(Mmpcap):
     """The file that is made beside the target, and renamed at the very end."""
 
-    @every_way
+    @both_ways
     def test_a_missing_folder(self, way):
         for made in ("missing/made", "missing/"):
             with self.subTest(made=made):
                 self.refuses(way, NOT_BESIDE, made=made)
 
-    @every_way
+    @both_ways
     def test_leftovers_do_not_stand_in_the_way(self, way):
         # Of any kind, a link to nowhere among them; they are left as they are.
         self.file(b"left", "made.part0")
@@ -618,20 +584,20 @@ class Beside(Mmpcap):
             self.makes(way, "taken", "made")
             self.assertEqual(self.all_files(), before)
 
-    @every_way
+    @both_ways
     def test_ten_leftovers_do(self, way):
         for number in range(10):
             self.file(b"left", f"made.part{number}")
         self.refuses(way, NOT_BESIDE)
 
-    @every_way
+    @both_ways
     def test_an_old_file_is_replaced_not_overwritten(self, way):
         old = self.file(b"old" * 10_000, "made")
         os.link(old, self.folder / "same")
         self.makes(way, "taken", "made")
         self.assertEqual((self.folder / "same").read_bytes(), b"old" * 10_000)
 
-    @every_way
+    @both_ways
     def test_the_mode(self, way):
         for umask, mode in ((0o022, 0o644), (0o077, 0o600), (0o002, 0o664), (0, 0o666)):
             with self.subTest(umask=umask):
@@ -645,11 +611,12 @@ class Going(Mmpcap):
 
     def waiting(self, way):
         """mmpcap, which has been given far more than it holds at once, and the event upon which its input ends."""
+        octets = (TRACES / "long.trace").read_bytes()
         given, rest = threading.Event(), threading.Event()
         self.addCleanup(rest.set)
 
         def pieces():
-            yield LONG[way.word].octets
+            yield octets if way is WRITE else capture_of(contents_of(octets))
             given.set()
             rest.wait()
 
@@ -664,7 +631,7 @@ class Going(Mmpcap):
         self.assertEqual(self.ended(process), (b"", f"mmpcap: {way.sentence(UNNAMED)}\n".encode()))
         self.assertEqual(sorted(path.name for path in self.folder.iterdir()), left)
 
-    @every_way
+    @both_ways
     def test_the_target_is_as_it_was_until_the_end(self, way):
         self.file(b"old", "made")
         process, rest = self.waiting(way)
@@ -674,14 +641,14 @@ class Going(Mmpcap):
         self.assertGreater((self.folder / "made").stat().st_size, 1_000_000)
         self.assertEqual(sorted(path.name for path in self.folder.iterdir()), ["made", "taken"])
 
-    @every_way
+    @both_ways
     def test_a_folder_takes_the_name_meanwhile(self, way):
         process, rest = self.waiting(way)
         (self.folder / "made").mkdir()
         self.fails(way, process, rest, ["made", "taken"])
         (self.folder / "made").rmdir()
 
-    @every_way
+    @both_ways
     def test_the_file_beside_goes_away_meanwhile(self, way):
         process, rest = self.waiting(way)
         (self.folder / "made.part0").unlink()
@@ -695,22 +662,23 @@ class Full(Mmpcap):
         # Python ignores the signal, and hands that on where it is not told otherwise.
         return {"restore_signals": False, "preexec_fn": lambda: resource.setrlimit(resource.RLIMIT_FSIZE, (size, size))}
 
-    @every_way
+    @both_ways
     def test_any_octet_may_be_the_first_that_has_no_room(self, way):
         for size in (0, 1, 23, 24, 25, 100, len(way.result) - 1):
             with self.subTest(size=size):
                 self.refuses(way, UNWRITTEN, **self.limited(size))
         self.makes(way, "taken", "made", **self.limited(len(way.result)))
 
-    @every_way
+    @both_ways
     def test_an_old_file_stays(self, way):
         self.file(b"old", "made")
         self.refuses(way, UNWRITTEN, **self.limited(100))
 
     def test_much_was_written_before(self):
-        for way in LONG.values():
+        octets = (TRACES / "long.trace").read_bytes()
+        for way, given in ((WRITE, octets), (READ, capture_of(contents_of(octets)))):
             with self.subTest(way=way.word):
-                self.file(way.octets, "taken")
+                self.file(given, "taken")
                 self.refuses(way, UNWRITTEN, **self.limited(1_000_000))
 
 
@@ -723,23 +691,18 @@ class Length(Mmpcap):
         self.assertEqual(output, b"")
         return most
 
-    def parted(self, what, octets):
-        """What stands once at the front of a capture or a trace, and all the rest."""
-        header = {"trace": b"", "capture": file_header()}[what]
-        return header, octets.removeprefix(header)
-
     def made_of(self, first, piece, times):
         """Whether the file has the first octets and then a piece so many times, and no more."""
         with open(self.folder / "made", "rb") as file:
             return (file.read(len(first)) == first and all(file.read(len(piece)) == piece for _ in range(times)) and file.read(1) == b"")
 
     def test_memory_does_not_grow_with_the_file(self):
-        # The long trace begins with a start, by which any photograph before it is given up: each time it is shown alike.
-        for way in LONG.values():
+        trace = (TRACES / "long.trace").read_bytes()
+        records = capture_of(contents_of(trace))[24:]
+        self.assertGreater(self.TIMES * len(trace), 100_000_000)
+        for way, (first, piece), result in ((WRITE, (b"", trace), (file_header(), records)),
+                                            (READ, (file_header(), records), (b"", trace))):
             with self.subTest(way=way.word):
-                first, piece = self.parted(way.taken, way.octets)
-                result = self.parted(way.made, way.result)
-                self.assertGreater(self.TIMES * len(piece), 100_000_000)
                 small = self.fed(way, (first, piece))
                 self.assertTrue(self.made_of(*result, 1))
                 large = self.fed(way, itertools.chain([first], itertools.repeat(piece, self.TIMES)))

@@ -1,4 +1,4 @@
-"""mmpcap, and the viewer's own tools, as the tests call them. mmpcap must be built (rt check mmpcap)."""
+"""mmpcap, and the viewer's own tools, as the tests call them. mmpcap must be built (scripts/prove mmpcap)."""
 
 import io
 import os
