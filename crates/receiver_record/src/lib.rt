@@ -42,6 +42,7 @@ impl Record {
     }
 
     // Test 11.
+    #[tactic(auto, using(rules::proofs::Tests::tests), unfolding(crate::specs::Records::in_range))]
     pub fn in_range(self) -> bool
         ensures { result ≡ in_range self }
     {

@@ -9,6 +9,7 @@ use counters::Counters;
 use receiver_record::Record;
 
 // Whether nine words are a receiving record's.
+#[tactic(auto, using(rules::proofs::Tests::tests), unfolding(crate::specs::Receiver::receiver_fits))]
 pub fn receiver_fits(words: [u32; 9]) -> bool
     ensures { result ≡ receiver_fits words }
 {
