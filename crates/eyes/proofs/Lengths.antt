@@ -2,7 +2,6 @@
 -- Assumes nothing.
 use mathlib.Core.Path.{◌≡◌, refl, sym, ap, ap₂, ◌∙◌}
 use mathlib.Core.List.{List, [], ◌∷◌}
-use Prim.Native.Nat.{ℕ}
 use Prim.Native.Nat.{ℕ, ◌+◌}
 use native.Mathlib.Omega.{arith}
 use lib.ListN.{length, length-append}
@@ -14,6 +13,7 @@ use Rattle.pcap.specs.Captures.{write_of}
 use Rattle.pcap.proofs.Laws.{by_length}
 use Rattle.receiver_record.specs.declared.Record.{Record}
 use Rattle.receiver_record.specs.Records.{fresh}
+use Rattle.receive.specs.Receive.{received_of}
 use Rattle.eyes_records.specs.Shown.{shown_of}
 use Rattle.eyes_records.proofs.Laws.{shown_length}
 use Rattle.eyes.specs.Eyes.{buffer_length, shown_from, shown_in, eyes_of}
@@ -25,7 +25,7 @@ records_length : (r : Record) (cs : List (List ℕ)) → length (capture_records
 unfolding capture_records shown_from
 records_length r [] = refl
 records_length r (c ∷ cs) =
-    length-append (capture_record (shown_of c r buffer_length)) _ ∙ ap₂ ◌+◌ (record_length c r) (records_length _ cs) ∙ sym (length-append (capture_record c) (capture_records cs))
+    length-append (capture_record (shown_of c r buffer_length)) _ ∙ ap₂ ◌+◌ (record_length c r) (records_length (received_of c r buffer_length).after cs) ∙ sym (length-append (capture_record c) (capture_records cs))
 
 pub same_length : (s : List ℕ) → length (capture_of (shown_in s)) ≡ length (capture_of (read_all s).contents)
 same_length s =

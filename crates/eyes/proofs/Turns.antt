@@ -9,8 +9,6 @@ use lib.Seq.{length-take-le}
 use Rattle.octets.specs.Laid.{laid}
 use Rattle.octets.proofs.Laid.{laid_laid}
 use Rattle.trace.specs.Trace.{found, read_at}
-use Rattle.trace.specs.declared.Read.TheVariants as R
-use Rattle.trace.specs.contracts.Read as read
 use Rattle.trace_layout.specs.Layout.{Listing}
 use Rattle.trace_layout.proofs.Rest.{rest_found}
 use Rattle.trace_layout.proofs.Inside.{Inside, found_inside, trace_reading}
