@@ -1,6 +1,5 @@
 // Writes the words of an answer to standard output. Words are parted by one blank.
 use crate::went::Went;
-use std::io::ErrorKind;
 
 pub fn text(rt: HostRuntime, words: &[u8]) {
     let _ = rt.write_all(words);
@@ -8,11 +7,7 @@ pub fn text(rt: HostRuntime, words: &[u8]) {
 
 // Whether the line could be ended. An output that took no word does not take a line's end either, so that nobody else has to ask.
 pub fn line_end(rt: HostRuntime) -> Went {
-    match rt.write_all(b"\n") {
-        Ok(()) => Went::On,
-        Err(error) if error.kind() == ErrorKind::BrokenPipe => Went::Gone,
-        Err(_) => Went::Unwritten,
-    }
+    Went::answered(rt.write_all(b"\n"))
 }
 
 pub fn number(rt: HostRuntime, n: u64) {

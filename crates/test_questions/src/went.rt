@@ -1,7 +1,8 @@
 // How a question went. The first that does not go on ends its program, which says why, once: but where nobody reads on, a program's status is 0.
 use crate::read;
 use crate::read::Question;
-use std::io::{IsTerminal, Print};
+use std::io;
+use std::io::{ErrorKind, IsTerminal, Print};
 use std::process::ExitCode;
 
 #[derive(Clone, Copy)]
@@ -31,6 +32,15 @@ impl Went {
             return Went::Terminal;
         }
         Went::On
+    }
+
+    // After an answer, written or not.
+    pub fn answered(written: io::Result<()>) -> Went {
+        match written {
+            Ok(()) => Went::On,
+            Err(error) if error.kind() == ErrorKind::BrokenPipe => Went::Gone,
+            Err(_) => Went::Unwritten,
+        }
     }
 
     // Whether the answer was written.
