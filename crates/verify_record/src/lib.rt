@@ -12,6 +12,7 @@ const LONGEST: u32 = 128;
 const USUAL: u8 = 10;
 
 // Whether an attempt may wait so many milliseconds.
+#[tactic(auto, using(rules::proofs::Tests::tests), unfolding(crate::specs::Ranges::is_wait))]
 pub fn is_wait(n: u32) -> bool
     ensures { result ≡ is_wait n }
 {

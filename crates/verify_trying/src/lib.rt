@@ -47,6 +47,7 @@ pub fn hear(record: Record) -> Stepped
 }
 
 // One millisecond of trying: the attempt goes on, or the next one begins, or the last one has failed.
+#[tactic(auto, using(crate::proofs::Laws::waits, crate::proofs::Laws::tries_again, crate::proofs::Laws::gives_up))]
 fn count_down(record: Record) -> Stepped
     ensures { told result ≡ one_less «record» }
 {

@@ -31,6 +31,7 @@ fn phase_of(n: u32) -> Phase
 }
 
 // Whether five words are a verification record's.
+#[tactic(auto, using(rules::proofs::Tests::tests), unfolding(crate::specs::Link::link_fits))]
 pub fn link_fits(words: [u32; 5]) -> bool
     ensures { result ≡ link_fits words }
 {
