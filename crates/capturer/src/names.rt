@@ -13,17 +13,7 @@ pub(crate) fn text_of(name: &[u8]) -> &str {
 
 // Whether two words are the same.
 pub(crate) fn same(a: &[u8], b: &[u8]) -> bool {
-    if a.len() != b.len() {
-        return false;
-    }
-    let mut i = 0;
-    while i < a.len() {
-        if a[i] != b[i] {
-            return false;
-        }
-        i += 1;
-    }
-    true
+    a == b
 }
 
 // Whether a link stands at a name.
