@@ -66,3 +66,15 @@ module _ (w area : List ℕ) (x : ℕ) where
   pub remembered : refusal_of w (length area) ≡ 0 → most ≤ word w 0 → Octet (octet_of w area x) 0 (set w 1 1) area
   unfolding octet_of
   remembered none k = simp (none, le-ltb (word w 0) most k) (record { answer = refl; state = refl; octets = refl })
+
+-- what each refusal by 19 tells, for the tactic at the code's returns
+pub refused_over : (w area : List ℕ) (x n : ℕ) → n ≡ 19 → most ≤ length area → most < word w 0 → Octet (octet_of w area x) n w area
+refused_over w area x n e h k = refused w area x e (over w (length area) h k) (omega arith)
+
+pub refused_flag : (w area : List ℕ) (x n : ℕ) → n ≡ 19 → most ≤ length area → 1 < word w 1 → Octet (octet_of w area x) n w area
+refused_flag w area x n e h k = refused w area x e (no_flag w (length area) h k) (omega arith)
+
+pub refused_more : (w area : List ℕ) (x n : ℕ) → n ≡ 19 → most ≤ length area → word w 0 < most → (word w 1 ≡ 0 → ⊥) → Octet (octet_of w area x) n w area
+refused_more w area x n e h k z = refused w area x e (more-below w (length area) h k z) (omega arith)
+
+pub ruleset refusals = (refused_over, refused_flag, refused_more)

@@ -18,6 +18,7 @@ pub fn state_of(words: [u32; 2]) -> State
 }
 
 // 18 by the area's length, 19 by the words, or 0.
+#[tactic(auto, using(rules::proofs::Tests::tests), unfolding(crate::specs::State::refusal_of))]
 pub fn refusal(words: [u32; 2], room: usize) -> u32
     ensures { result ≡ refusal_of words room }
 {
@@ -34,6 +35,7 @@ pub fn refusal(words: [u32; 2], room: usize) -> u32
 }
 
 // An octet, by the words of the state, each of which is read and written by itself, the usual case by few tests: an octet has little time.
+#[tactic(auto, using(crate::proofs::Octets::refusals))]
 pub fn octet(stream: &mut [u32; 2], area: &mut [u8], octet: u8) -> u32
     ensures { Octet (octet_of stream.old area.old octet) result stream.new area.new }
 {
