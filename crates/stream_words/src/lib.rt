@@ -18,6 +18,7 @@ pub fn state_of(words: [u32; 2]) -> State
 }
 
 // 18 by the area's length, 19 by the words, or 0.
+#[tactic(auto, using(rules::proofs::Tests::tests), unfolding(crate::specs::State::refusal_of))]
 pub fn refusal(words: [u32; 2], room: usize) -> u32
     ensures { result ≡ refusal_of words room }
 {
