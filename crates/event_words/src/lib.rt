@@ -10,6 +10,7 @@ use verify::Event;
 use verify_answers::Answer;
 
 // Whether a number is an event's. The receiver's answers 3 and 4 are those of what was heard; no other answer of it is an event.
+#[tactic(auto, using(rules::proofs::Tests::tests), unfolding(crate::specs::Events::is_event))]
 pub fn is_event(n: u32) -> bool
     ensures { result ≡ is_event n }
 {

@@ -24,6 +24,7 @@ fn wide(x: u32) -> u64
 }
 
 // How many events an operation has.
+#[tactic(auto, using(rules::proofs::Tests::tests), unfolding(crate::specs::Events::event_at))]
 fn counted(operation: u32) -> u32
     ensures { (result ≡ length (event_at 0 operation)) × (result ≤ 1) }
 {

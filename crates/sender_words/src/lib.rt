@@ -8,6 +8,7 @@ use codes::{FragmentCount, FrameCount};
 use sender_record::Record;
 
 // Whether seven words are a sending record's.
+#[tactic(auto, using(rules::proofs::Tests::tests), unfolding(crate::specs::Sender::sender_fits))]
 pub fn sender_fits(words: [u32; 7]) -> bool
     ensures { result ≡ sender_fits words }
 {
