@@ -27,7 +27,7 @@ use Rattle.send.specs.Preemptable.{mframe, Step, go, sent_of, unless, preemptabl
 use Rattle.sender_part.proofs.Laws.{cut_within}
 use Rattle.link.specs.Sender.{Fate, Call, express_call, preemptable_call, verify_call, respond_call, MFrame, express, part, order, sends, setting, sending}
 use Rattle.link.specs.Frames.{SameToEnd}
-use Rattle.link.proofs.Flow.{Sender, Whole, Order, verify, respond, Flow}
+use Rattle.link.proofs.Flow.{Sender, Order, verify, respond, Flow}
 use Rattle.link.proofs.Send.{Means, means_setting, up_to, emits, means_after}
 
 -- what a call sends is what it wrote
