@@ -94,7 +94,7 @@ class Checks(Called):
 
     def test_names_of_no_file(self):
         self.file(HOLD)
-        for name in ("missing", "", "hall.gates/", "no folder/hall.gates", "x" * 300, "./" * 2043 + "hall.gates", "x/" * 3000):
+        for name in ("missing", "", "hall.gates/", "no folder/hall.gates", "x" * 300, "./" * 2043 + "hall.gates", "x/" * 3000, b"\xff\xfe"):
             with self.subTest(name=name[:20]):
                 self.assertEqual(self.said(name), (b"", UNOPENED))
 

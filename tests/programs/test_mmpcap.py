@@ -338,7 +338,7 @@ class Words(Mmpcap):
 
 
 class Names(Mmpcap):
-    NAMES = ("row.trace", "two  words", "it's", 'a "b"', "$HOME", "--help", "-x", "--", "write", "é", b"\xff\xfe", "two\nlines", "a line\n",
+    NAMES = ("row.trace", "two  words", "it's", 'a "b"', "$HOME", "--help", "-x", "--", "write", "é", "two\nlines", "a line\n",
              "a*b?", "back\\slash", "%s%n", " ")
 
     @both_ways
@@ -348,6 +348,14 @@ class Names(Mmpcap):
                 self.makes(way, "taken", name)
                 (self.folder / os.fsdecode(name)).write_bytes(way.octets)
                 self.makes(way, name, "made")
+
+    @both_ways
+    def test_a_name_that_is_no_text(self, way):
+        # The library that the programs stand on names files by UTF-8 text.
+        name = b"\xff\xfe"
+        self.refuses(way, NOT_BESIDE, made=name)
+        (self.folder / os.fsdecode(name)).write_bytes(way.octets)
+        self.refuses(way, UNOPENED, taken=name)
 
     @both_ways
     def test_folders(self, way):

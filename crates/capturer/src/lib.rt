@@ -135,6 +135,6 @@ pub fn run(rt: HostRuntime) {
         }
     }
     let _ = rt.stderr().write_all(
-        b"mmpcap: a capture is made from a trace, for eyes too, or read back, as in: mmpcap write row.trace row.pcap, mmpcap show row.trace row.eyes.pcap, or: mmpcap read row.pcap row.trace\n",
+        b"mmpcap: a capture is made from a trace or read back, as in: mmpcap write row.trace row.pcap, or: mmpcap read row.pcap row.trace\n",
     );
 }
