@@ -66,3 +66,10 @@ module _ (w area : List ℕ) (x : ℕ) where
   pub remembered : refusal_of w (length area) ≡ 0 → most ≤ word w 0 → Octet (octet_of w area x) 0 (set w 1 1) area
   unfolding octet_of
   remembered none k = simp (none, le-ltb (word w 0) most k) (record { answer = refl; state = refl; octets = refl })
+
+  -- where fewer are counted than an area holds: more remembered is refused, and else the octet is kept
+  pub more_refused : {n : ℕ} → n ≡ 19 → most ≤ length area → word w 0 < most → (word w 1 ≡ 0 → ⊥) → Octet (octet_of w area x) n w area
+  more_refused e h k z = refused e (more-below w (length area) h k z) (omega arith)
+
+  pub kept_below : most ≤ length area → word w 0 < most → word w 1 ≡ 0 → Octet (octet_of w area x) 0 (set w 0 (word w 0 + 1)) (set area (word w 0) x)
+  kept_below h k z = kept (below w (length area) h k z) h k

@@ -35,6 +35,7 @@ pub fn refusal(words: [u32; 2], room: usize) -> u32
 }
 
 // An octet, by the words of the state, each of which is read and written by itself, the usual case by few tests: an octet has little time.
+#[tactic(auto, using(crate::proofs::Octets::more_refused, crate::proofs::Octets::kept_below))]
 pub fn octet(stream: &mut [u32; 2], area: &mut [u8], octet: u8) -> u32
     ensures { Octet (octet_of stream.old area.old octet) result stream.new area.new }
 {

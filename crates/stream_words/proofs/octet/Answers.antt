@@ -1,25 +1,13 @@
 -- `stream_words::octet` meets its contract.
 use native.Mathlib.Omega.{arith}
 use lib.ListN.{length}
-use Rattle.stream_words.proofs.Octets.{short, over, no_flag, more-below, below, full, refused, kept, remembered}
+use Rattle.stream_words.proofs.Octets.{short, over, no_flag, full, refused, remembered}
 use Rattle.stream_words.proofs.octet.Goals as goal
 
 pub returns-then-area : goal.returns-then-area
 returns-then-area c =
     let a = c.args in
     refused a.stream.now a.area.now a.octet c.number.ensures (short a.stream.now (length a.area.now) c.if-area.true) (omega arith)
-
-pub returns-then-stream-ne0 : goal.returns-then-stream-ne0
-returns-then-stream-ne0 c =
-    let a = c.args in
-    refused a.stream.now a.area.now a.octet c.number-then-stream-ne0.ensures
-    (more-below a.stream.now (length a.area.now) c.if-area.false c.if-count-lt-MOST.true c.if-stream-ne0.true) (omega arith)
-
-pub returns-then-count-lt-MOST : goal.returns-then-count-lt-MOST
-returns-then-count-lt-MOST c =
-    let a = c.args in
-    let h = c.if-area.false in
-    kept a.stream.now a.area.now a.octet (below a.stream.now (length a.area.now) h c.if-count-lt-MOST.true c.if-stream-ne0.false) h c.if-count-lt-MOST.true
 
 pub returns-then-count-gt-MOST : goal.returns-then-count-gt-MOST
 returns-then-count-gt-MOST c =
