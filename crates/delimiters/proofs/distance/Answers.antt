@@ -23,20 +23,14 @@ at_end x i h = ap (λ (ds : List ℕ). least_of (map (differing x) ds)) (drop_of
 
 pub loop-i-init : goal.loop-i-init
 unfolding distance_of
-loop-i-init c = (omega arith, (omega arith, omega (arith, least_eight (map (differing c.args.octet) eleven))))
-
-pub returns-then-bits-le2 : goal.returns-then-bits-le2
-returns-then-bits-le2 c =
-    let i = c.loop-i.i in
-    let few : differing c.args.octet (get_or eleven i 0) ≤ 2 = omega (arith, c.if-bits-le2.true) in
-    unbeaten c.args.octet i c.ranges.octet.fits c.loop-i-test.true few
+loop-i-init c = (omega arith, (omega arith, (omega (arith, least_eight (map (differing c.args.octet) eleven)), unbeaten c.args.octet 0 c.ranges.octet.fits)))
 
 pub loop-i-preserved : goal.loop-i-preserved
 loop-i-preserved c =
     let l = c.loop-i in
     let t = turn c.args.octet l.i c.loop-i-test.true in
     let e = c.least-best.ensures in
-    (omega arith, (omega arith, omega arith))
+    (omega arith, (omega arith, (omega arith, unbeaten c.args.octet (l.i + 1) c.ranges.octet.fits)))
 
 pub returns : goal.returns
 returns c =

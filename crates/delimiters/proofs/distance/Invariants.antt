@@ -2,8 +2,8 @@
 -- early is the distance by itself.
 use mathlib.Core.Path.{◌≡◌}
 use mathlib.Core.List.{map}
-use Prim.Native.Nat.{ℕ, ◌-◌, ◌≤◌, min}
-use lib.ListN.{drop}
+use Prim.Native.Nat.{ℕ, ◌-◌, ◌≤◌, ◌<◌, min}
+use lib.ListN.{get_or, drop}
 use Rattle.delimiters.specs.Delimiters.{eleven, differing, least_of, distance_of}
 use Rattle.delimiters.proofs.distance.Given as goal
 
@@ -12,7 +12,11 @@ abbrev pub left : ℕ → ℕ → ℕ
 left x i = least_of (map (differing x) (drop i eleven))
 
 abbrev pub invariant-loop-i : goal.invariant-loop-i
-invariant-loop-i l = (l.i ≤ 11) × ((l.best ≤ 8) × (min l.best (left l.octet l.i) ≡ distance_of l.octet))
+invariant-loop-i l =
+    (l.i ≤ 11)
+    × ((l.best ≤ 8)
+    × ((min l.best (left l.octet l.i) ≡ distance_of l.octet)
+    × (l.i < 11 → differing l.octet (get_or eleven l.i 0) ≤ 2 → differing l.octet (get_or eleven l.i 0) ≡ distance_of l.octet)))
 
 abbrev pub decreases-loop-i : goal.decreases-loop-i
 decreases-loop-i l = 11 - l.i
