@@ -46,8 +46,8 @@ captures: ## writes two captures of the sample, for eyes and for keeping, with T
 test: ## the gate: proves and tests everything, from nothing
 	@$(project)/scripts/gate
 
-prove: ## the edit loop: proves what changed
-	@cd $(project) && scripts/need-kit && rt all check
+prove: ## the edit loop: proves what changed, and runs the programs
+	@cd $(project) && scripts/need-kit && rt all test
 
 vectors: ## makes the stored vectors, traces, schedules and captures anew
 	@cd $(project) && for maker in tests/reference/vectors_*.py tests/reference/traces.py tests/reference/schedules.py tests/reference/captures_files.py tests/reference/eyes_files.py; do python3 "$$maker" || exit 1; done

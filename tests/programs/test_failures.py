@@ -1,6 +1,6 @@
 """Every program where its input or its output fails: one sentence on standard error, and the program is at its end.
 
-The programs must be built (scripts/prove). They have no exit status; scripts/run-program gives 1 where one said something.
+The programs must be built (scripts/prove). Their exit status says nothing of it; scripts/run-program gives 1 where one said something.
 test_commands.py has the commands around them.
 """
 

@@ -62,18 +62,22 @@ def in_full(capture):
     return asked("tshark", "-n", "-r", capture, "-V").decode()
 
 
-def listed(capture, column=None, passes=TWO_PASSES):
-    """The list, line by line, with blanks left out: the usual columns, or one by its letters."""
+def lines_of(capture, column, passes):
+    """The list, line by line: the usual columns, or one by its letters."""
     chosen = ("-o", f'gui.column.format:"Column","%{column}"') if column else ()
-    lines = asked("tshark", *passes, "-n", "-r", capture, *chosen).decode().split("\n")[:-1]
-    return [" ".join(line.split()) for line in lines]
+    return asked("tshark", *passes, "-n", "-r", capture, *chosen).decode().split("\n")[:-1]
+
+
+def listed(capture, column=None, passes=TWO_PASSES):
+    """The same with blanks left out."""
+    return [" ".join(line.split()) for line in lines_of(capture, column, passes)]
 
 
 def shown(capture, passes=ONE_PASS):
     """Every record of a capture, as tshark shows it."""
     tree = io.BytesIO(asked("tshark", *passes, "-n", "-r", capture, "-T", "pdml", "-J", "fpp"))
     packets = [taken_from(packet) for _, packet in ElementTree.iterparse(tree) if packet.tag == "packet"]
-    return [Shown(line, *packet) for line, packet in zip(listed(capture, "i", passes), packets, strict=True)]
+    return [Shown(line.strip(), *packet) for line, packet in zip(lines_of(capture, "i", passes), packets, strict=True)]
 
 
 def found(capture, expression):
