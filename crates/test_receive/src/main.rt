@@ -2,14 +2,13 @@
 // the reference alone.
 #![tactic(auto)]
 
-use codes::{FragmentCount, FrameCount};
-use counters::Counters;
 use receiver_answers::Answer;
 use receiver_record::Record;
 use std::process::ExitCode;
 use test_questions::read::Question;
 use test_questions::stop::Stop;
 use test_questions::{read, say};
+use test_receivers::{record, say_check, say_record};
 
 // What is kept from question to question: the record, and lent memory, of which so many octets are the buffer.
 #[derive(Clone, Copy)]
@@ -19,46 +18,9 @@ struct Kept {
     room: usize,
 }
 
-fn record(q: Question) -> Record {
-    Record {
-        assembling: q.octet(1) != 0,
-        frame: FrameCount(q.octet(2)),
-        fragment: FragmentCount(q.octet(3)),
-        kept: q.long(4),
-        running: q.word(12),
-        counters: Counters {
-            errors: q.word(16),
-            delimiters: q.word(20),
-            assembled: q.word(24),
-            fragments: q.word(28),
-        },
-    }
-}
-
 fn say_answer(rt: HostRuntime, answer: Answer) {
     say::first(rt, answer.number() as u64);
     say::number(rt, answer.detail() as u64);
-}
-
-fn say_record(rt: HostRuntime, r: Record) {
-    let frame = r.frame;
-    let fragment = r.fragment;
-    say::flag(rt, r.assembling);
-    say::small(rt, frame.0);
-    say::small(rt, fragment.0);
-    say::number(rt, r.kept as u64);
-    say::word(rt, r.running as u64);
-}
-
-fn say_counters(rt: HostRuntime, c: Counters) {
-    say::number(rt, c.errors as u64);
-    say::number(rt, c.delimiters as u64);
-    say::number(rt, c.assembled as u64);
-    say::number(rt, c.fragments as u64);
-}
-
-fn say_check(rt: HostRuntime, octets: &[u8]) {
-    say::octets(rt, crc::fcs(crc::over(crc::ALL_ONES, octets)));
 }
 
 // Where the express body begins, as the call for C tells it: a program cannot see where a slice lies.
@@ -83,7 +45,6 @@ fn mframe(rt: HostRuntime, kept: &mut Kept, q: Question) -> Result<(), Stop> {
     let after = got.after;
     say_answer(rt, got.answer);
     say_record(rt, after);
-    say_counters(rt, after.counters);
     say_check(rt, buffer);
     say_body(rt, mframe);
     kept.record = after;

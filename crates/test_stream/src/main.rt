@@ -2,14 +2,13 @@
 // the answers expected come from the reference alone.
 #![tactic(auto)]
 
-use codes::{FragmentCount, FrameCount};
-use counters::Counters;
 use receiver_record::Record;
 use std::process::ExitCode;
 use stream::{Given, Refusal, Reply, State};
 use test_questions::read::Question;
 use test_questions::stop::Stop;
 use test_questions::{read, say};
+use test_receivers::{record, say_check, say_record};
 
 // Lent memory: the first octets of a space, so many.
 #[derive(Clone, Copy)]
@@ -42,22 +41,6 @@ struct Kept {
     record: Record,
     area: Lent,
     buffer: Lent,
-}
-
-fn record(q: Question) -> Record {
-    Record {
-        assembling: q.octet(1) != 0,
-        frame: FrameCount(q.octet(2)),
-        fragment: FragmentCount(q.octet(3)),
-        kept: q.long(4),
-        running: q.word(12),
-        counters: Counters {
-            errors: q.word(16),
-            delimiters: q.word(20),
-            assembled: q.word(24),
-            fragments: q.word(28),
-        },
-    }
 }
 
 fn state(q: Question) -> State {
@@ -95,27 +78,6 @@ impl Tally {
 fn say_state(rt: HostRuntime, s: State) {
     say::number(rt, s.count as u64);
     say::flag(rt, s.more);
-}
-
-fn say_record(rt: HostRuntime, r: Record) {
-    let frame = r.frame;
-    let fragment = r.fragment;
-    say::flag(rt, r.assembling);
-    say::small(rt, frame.0);
-    say::small(rt, fragment.0);
-    say::number(rt, r.kept as u64);
-    say::word(rt, r.running as u64);
-}
-
-fn say_counters(rt: HostRuntime, c: Counters) {
-    say::number(rt, c.errors as u64);
-    say::number(rt, c.delimiters as u64);
-    say::number(rt, c.assembled as u64);
-    say::number(rt, c.fragments as u64);
-}
-
-fn say_check(rt: HostRuntime, octets: &[u8]) {
-    say::octets(rt, crc::fcs(crc::over(crc::ALL_ONES, octets)));
 }
 
 // An octet or the end, given to the receiver; its reply.
@@ -168,7 +130,6 @@ fn end(rt: HostRuntime, kept: &mut Kept) -> Result<(), Stop> {
     say_reply(rt, reply);
     say_state(rt, kept.state);
     say_record(rt, kept.record);
-    say_counters(rt, kept.record.counters);
     say_check(rt, kept.area.octets());
     say_check(rt, kept.buffer.octets());
     say::line_end(rt)
