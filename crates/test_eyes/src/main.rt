@@ -5,66 +5,50 @@
 use pcap_lists::Answer;
 use std::process::ExitCode;
 use test_questions::read::Question;
-use test_questions::went::Went;
+use test_questions::stop::Stop;
 use test_questions::{read, say};
 
 // An answer, and the FCS of all of the lent memory.
-fn say_answer(rt: HostRuntime, answer: Answer, lent: &[u8]) -> Went {
+fn say_answer(rt: HostRuntime, answer: Answer, lent: &[u8]) -> Result<(), Stop> {
     say::number(rt, answer.number() as u64);
     say::number(rt, answer.value() as u64);
     say::octets(rt, crc::fcs(crc::over(crc::ALL_ONES, lent)));
     say::line_end(rt)
 }
 
-fn write(rt: HostRuntime, given: &[u8], lent: &mut [u8]) -> Went {
+fn write(rt: HostRuntime, given: &[u8], lent: &mut [u8]) -> Result<(), Stop> {
     let answer = pcap::write(given, lent);
     say::text(rt, b"write");
     say_answer(rt, answer, lent)
 }
 
-fn read_back(rt: HostRuntime, given: &[u8], lent: &mut [u8]) -> Went {
+fn read_back(rt: HostRuntime, given: &[u8], lent: &mut [u8]) -> Result<(), Stop> {
     let answer = pcap::read(given, lent);
     say::text(rt, b"read");
     say_answer(rt, answer, lent)
 }
 
-fn show(rt: HostRuntime, given: &[u8], lent: &mut [u8]) -> Went {
+fn show(rt: HostRuntime, given: &[u8], lent: &mut [u8]) -> Result<(), Stop> {
     let answer = eyes::write(given, lent);
     say::text(rt, b"show");
     say_answer(rt, answer, lent)
 }
 
-fn question(rt: HostRuntime, q: Question) -> Went {
+fn question(rt: HostRuntime, q: Question) -> Result<(), Stop> {
     let mut given = [0u8; 8192];
     let mut space = [0u8; 8192];
-    let n = q.short(1);
-    let room = q.short(3);
-    if !read::part(rt, &mut given, 0, n) {
-        return Went::Broken;
-    }
-    let lent = read::lent(&mut space, room, q.octet(5));
-    if lent.len() < room {
-        return Went::Broken;
-    }
+    let given = read::octets(rt, &mut given, q.short(1))?;
+    let lent = read::lent(&mut space, q.short(3), q.octet(5))?;
     match q.octet(0) {
-        1 => write(rt, read::front(&given, n), lent),
-        2 => read_back(rt, read::front(&given, n), lent),
-        _ => show(rt, read::front(&given, n), lent),
+        1 => write(rt, given, lent),
+        2 => read_back(rt, given, lent),
+        _ => show(rt, given, lent),
     }
 }
 
 // The octets that the numbers of each kind of question take.
 const SIZES: [usize; 4] = [0, 6, 6, 6];
 
-// A proved loop has to end, and nothing says that the input does: it has more turns than any input.
 fn main(rt: HostRuntime) -> ExitCode {
-    let mut went = Went::start(rt);
-    for _ in 0..u32::MAX {
-        let q = went.next(rt, b"test_eyes", &SIZES);
-        if !q.asked {
-            return went.status();
-        }
-        went = question(rt, q);
-    }
-    ExitCode::SUCCESS
+    test_questions::run(rt, b"test_eyes", &SIZES, |q| question(rt, q))
 }

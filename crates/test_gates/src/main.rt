@@ -7,7 +7,7 @@ ghost use Rattle.std.specs.Prelude.{◌+◌, ◌≤◌, length};
 use gate_lists::Answer;
 use std::process::ExitCode;
 use test_questions::read::Question;
-use test_questions::went::Went;
+use test_questions::stop::Stop;
 use test_questions::{read, say};
 
 // The most entries that a question gives; so many entries or events it can have room for.
@@ -39,58 +39,36 @@ fn event_at(octets: &[u8], at: usize) -> [u64; 2]
 fn take_entries(octets: &[u8; 3600], entries: &mut [[u32; 3]])
     requires { length entries.old ≤ 300 }
 {
-    for i in 0..entries.len() {
-        entries[i] = entry_at(octets, i * 12);
+    for (i, entry) in entries.iter_mut().enumerate() {
+        *entry = entry_at(octets, i * 12);
     }
 }
 
 fn take_events(octets: &[u8; 4800], events: &mut [[u64; 2]])
     requires { length events.old ≤ 300 }
 {
-    for i in 0..events.len() {
-        events[i] = event_at(octets, i * 16);
+    for (i, event) in events.iter_mut().enumerate() {
+        *event = event_at(octets, i * 16);
     }
 }
 
-// The first n entries or events, or all where there are fewer.
-fn front_entries(entries: &[[u32; 3]], n: usize) -> &[[u32; 3]] {
-    if entries.len() < n {
-        return entries;
-    }
-    &entries[0..n]
-}
-
-fn front_entries_mut(entries: &mut [[u32; 3]], n: usize) -> &mut [[u32; 3]] {
-    if entries.len() < n {
-        return entries;
-    }
-    &mut entries[0..n]
-}
-
-fn front_events_mut(events: &mut [[u64; 2]], n: usize) -> &mut [[u64; 2]] {
-    if events.len() < n {
-        return events;
-    }
-    &mut events[0..n]
-}
-
-// Lent memory for n of them, or for all of the space where there are fewer; no call wrote it.
-fn lent_entries(space: &mut [[u32; 3]], n: usize, first: u8) -> &mut [[u32; 3]]
+// Lent memory for n of them; no call wrote it.
+fn lent_entries(space: &mut [[u32; 3]], n: usize, first: u8) -> Result<&mut [[u32; 3]], Stop>
     requires { length space.old ≤ 300 }
 {
     let mut octets = [0u8; 3600];
-    read::lent(&mut octets, 3600, first);
+    read::lent(&mut octets, 3600, first)?;
     take_entries(&octets, space);
-    front_entries_mut(space, n)
+    space.get_mut(..n).ok_or(Stop::Broken)
 }
 
-fn lent_events(space: &mut [[u64; 2]], n: usize, first: u8) -> &mut [[u64; 2]]
+fn lent_events(space: &mut [[u64; 2]], n: usize, first: u8) -> Result<&mut [[u64; 2]], Stop>
     requires { length space.old ≤ 300 }
 {
     let mut octets = [0u8; 4800];
-    read::lent(&mut octets, 4800, first);
+    read::lent(&mut octets, 4800, first)?;
     take_events(&octets, space);
-    front_events_mut(space, n)
+    space.get_mut(..n).ok_or(Stop::Broken)
 }
 
 // The FCS of all of the lent memory, its words as octets again.
@@ -113,16 +91,16 @@ fn over_event(register: u32, event: [u64; 2]) -> u32 {
 
 fn say_entries(rt: HostRuntime, entries: &[[u32; 3]]) {
     let mut register = crc::ALL_ONES;
-    for entry in entries {
-        register = over_entry(register, *entry);
+    for &entry in entries {
+        register = over_entry(register, entry);
     }
     say::octets(rt, crc::fcs(register));
 }
 
 fn say_events(rt: HostRuntime, events: &[[u64; 2]]) {
     let mut register = crc::ALL_ONES;
-    for event in events {
-        register = over_event(register, *event);
+    for &event in events {
+        register = over_event(register, event);
     }
     say::octets(rt, crc::fcs(register));
 }
@@ -136,62 +114,42 @@ fn say_answer(rt: HostRuntime, answer: Answer) {
     say::number(rt, answer.value() as u64);
 }
 
-fn read_list(rt: HostRuntime, q: Question) -> Went {
+fn read_list(rt: HostRuntime, q: Question) -> Result<(), Stop> {
     let mut list = [0u8; 2048];
     let mut space = [[0u32; 3]; 300];
-    let n = q.short(1);
-    let room = q.short(3);
-    if !read::part(rt, &mut list, 0, n) {
-        return Went::Broken;
-    }
-    let out = lent_entries(&mut space, room, q.octet(5));
-    if out.len() < room {
-        return Went::Broken;
-    }
-    let answer = gates::read_list(read::front(&list, n), out);
+    let list = read::octets(rt, &mut list, q.short(1))?;
+    let out = lent_entries(&mut space, q.short(3), q.octet(5))?;
+    let answer = gates::read_list(list, out);
     say::text(rt, b"read");
     say_answer(rt, answer);
     say_entries(rt, out);
     say::line_end(rt)
 }
 
-fn write_list(rt: HostRuntime, q: Question) -> Went {
+fn write_list(rt: HostRuntime, q: Question) -> Result<(), Stop> {
     let mut given = [0u8; 3600];
     let mut entries = [[0u32; 3]; 300];
     let mut space = [0u8; 2048];
     let n = q.short(1);
-    let room = q.short(3);
     if MOST < n {
-        return Went::Broken;
+        return Err(Stop::Broken);
     }
-    if !read::part(rt, &mut given, 0, n * 12) {
-        return Went::Broken;
-    }
-    let out = read::lent(&mut space, room, q.octet(5));
-    if out.len() < room {
-        return Went::Broken;
-    }
+    read::octets(rt, &mut given, n * 12)?;
+    let out = read::lent(&mut space, q.short(3), q.octet(5))?;
     take_entries(&given, &mut entries);
-    let answer = gates::write_list(front_entries(&entries, n), out);
+    let answer = gates::write_list(read::front(&entries, n), out);
     say::text(rt, b"write");
     say_answer(rt, answer);
     say_octets(rt, out);
     say::line_end(rt)
 }
 
-fn list_events(rt: HostRuntime, q: Question) -> Went {
+fn list_events(rt: HostRuntime, q: Question) -> Result<(), Stop> {
     let mut list = [0u8; 2048];
     let mut space = [[0u64; 2]; 300];
-    let n = q.short(1);
-    let room = q.short(3);
-    if !read::part(rt, &mut list, 0, n) {
-        return Went::Broken;
-    }
-    let out = lent_events(&mut space, room, q.octet(5));
-    if out.len() < room {
-        return Went::Broken;
-    }
-    let listed = gates::list_events(read::front(&list, n), out);
+    let list = read::octets(rt, &mut list, q.short(1))?;
+    let out = lent_events(&mut space, q.short(3), q.octet(5))?;
+    let listed = gates::list_events(list, out);
     let answer = listed.answer;
     say::text(rt, b"events");
     say_answer(rt, answer);
@@ -203,7 +161,7 @@ fn list_events(rt: HostRuntime, q: Question) -> Went {
 // The octets that the numbers of each kind of question take.
 const SIZES: [usize; 4] = [0, 6, 6, 6];
 
-fn question(rt: HostRuntime, q: Question) -> Went {
+fn question(rt: HostRuntime, q: Question) -> Result<(), Stop> {
     match q.octet(0) {
         1 => read_list(rt, q),
         2 => write_list(rt, q),
@@ -211,15 +169,6 @@ fn question(rt: HostRuntime, q: Question) -> Went {
     }
 }
 
-// A proved loop has to end, and nothing says that the input does: it has more turns than any input.
 fn main(rt: HostRuntime) -> ExitCode {
-    let mut went = Went::start(rt);
-    for _ in 0..u32::MAX {
-        let q = went.next(rt, b"test_gates", &SIZES);
-        if !q.asked {
-            return went.status();
-        }
-        went = question(rt, q);
-    }
-    ExitCode::SUCCESS
+    test_questions::run(rt, b"test_gates", &SIZES, |q| question(rt, q))
 }

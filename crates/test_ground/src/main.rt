@@ -8,11 +8,11 @@ use delimiters::{Delimiter, Fragment};
 use endings::Ending;
 use std::process::ExitCode;
 use test_questions::read::Question;
-use test_questions::went::Went;
+use test_questions::stop::Stop;
 use test_questions::{read, say};
 
 // The check octets of every number of octets from 0 to all of them.
-fn check_line(rt: HostRuntime, register: u32, octets: &[u8], k: usize) -> Went {
+fn check_line(rt: HostRuntime, register: u32, octets: &[u8], k: usize) -> Result<(), Stop> {
     let after = crc::over(register, read::front(octets, k));
     say::text(rt, b"check");
     say::number(rt, k as u64);
@@ -21,15 +21,11 @@ fn check_line(rt: HostRuntime, register: u32, octets: &[u8], k: usize) -> Went {
     say::line_end(rt)
 }
 
-fn check_lines(rt: HostRuntime, register: u32, octets: &[u8]) -> Went {
-    let n = octets.len();
-    for k in 0..n {
-        let went = check_line(rt, register, octets, k);
-        if !went.is_on() {
-            return went;
-        }
+fn check_lines(rt: HostRuntime, register: u32, octets: &[u8]) -> Result<(), Stop> {
+    for k in 0..=octets.len() {
+        check_line(rt, register, octets, k)?;
     }
-    check_line(rt, register, octets, n)
+    Ok(())
 }
 
 // What an octet says.
@@ -54,7 +50,7 @@ fn say_fragment(rt: HostRuntime, f: Fragment) {
     }
 }
 
-fn octet(rt: HostRuntime, octet: u8) -> Went {
+fn octet(rt: HostRuntime, octet: u8) -> Result<(), Stop> {
     say::text(rt, b"octet");
     say::small(rt, octet);
     say::number(rt, delimiters::distance(octet) as u64);
@@ -64,7 +60,7 @@ fn octet(rt: HostRuntime, octet: u8) -> Went {
 }
 
 // A count's steps and codes.
-fn count(rt: HostRuntime, n: u8) -> Went {
+fn count(rt: HostRuntime, n: u8) -> Result<(), Stop> {
     let frame = FrameCount(n);
     let fragment = FragmentCount(n);
     let next = frame.next();
@@ -82,7 +78,7 @@ fn count(rt: HostRuntime, n: u8) -> Went {
 }
 
 // Where an mFrame is cut.
-fn say_part(rt: HostRuntime, p: Part) -> Went {
+fn say_part(rt: HostRuntime, p: Part) -> Result<(), Stop> {
     say::text(rt, b"cut");
     match p {
         Part::Whole => say::text(rt, b" whole"),
@@ -95,13 +91,13 @@ fn ask_of(asked: u8, t: usize) -> Ask {
     if asked == 0 { Ask::None } else { Ask::At(t) }
 }
 
-fn cut_asked(rt: HostRuntime, q: Question) -> Went {
+fn cut_asked(rt: HostRuntime, q: Question) -> Result<(), Stop> {
     let ask = ask_of(q.octet(18), q.long(19));
     say_part(rt, cut::next_part(q.long(1), q.long(9), q.octet(17), ask))
 }
 
 // What the last four octets decide.
-fn say_ending(rt: HostRuntime, e: Ending) -> Went {
+fn say_ending(rt: HostRuntime, e: Ending) -> Result<(), Stop> {
     say::text(rt, b"ending");
     match e {
         Ending::Done(n) => {
@@ -119,14 +115,10 @@ fn say_ending(rt: HostRuntime, e: Ending) -> Went {
 }
 
 // A register and a run of octets: their check octets, or their ending.
-fn over_octets(rt: HostRuntime, q: Question, check: bool) -> Went {
+fn over_octets(rt: HostRuntime, q: Question, check: bool) -> Result<(), Stop> {
     let mut space = [0u8; 2048];
     let register = q.word(1);
-    let n = q.short(5);
-    if !read::part(rt, &mut space, 0, n) {
-        return Went::Broken;
-    }
-    let octets = read::front(&space, n);
+    let octets = read::octets(rt, &mut space, q.short(5))?;
     if check {
         return check_lines(rt, register, octets);
     }
@@ -134,16 +126,13 @@ fn over_octets(rt: HostRuntime, q: Question, check: bool) -> Went {
 }
 
 // A piece laid into memory.
-fn no_room(rt: HostRuntime) -> Went {
+fn no_room(rt: HostRuntime) -> Result<(), Stop> {
     say::text(rt, b"lay no room");
     say::line_end(rt)
 }
 
-fn lay_piece(rt: HostRuntime, piece: &[u8], memory: &mut [u8], at: usize) -> Went {
-    if memory.len() < at {
-        return no_room(rt);
-    }
-    if memory.len() - at < piece.len() {
+fn lay_piece(rt: HostRuntime, piece: &[u8], memory: &mut [u8], at: usize) -> Result<(), Stop> {
+    if memory.len() < at || memory.len() - at < piece.len() {
         return no_room(rt);
     }
     octets::copy_into(piece, memory, at);
@@ -152,29 +141,18 @@ fn lay_piece(rt: HostRuntime, piece: &[u8], memory: &mut [u8], at: usize) -> Wen
     say::line_end(rt)
 }
 
-fn lay(rt: HostRuntime, q: Question) -> Went {
+fn lay(rt: HostRuntime, q: Question) -> Result<(), Stop> {
     let mut memory = [0u8; 2048];
     let mut piece = [0u8; 2048];
-    let n = q.short(1);
-    let m = q.short(3);
-    if !read::part(rt, &mut memory, 0, n) {
-        return Went::Broken;
-    }
-    if !read::part(rt, &mut piece, 0, m) {
-        return Went::Broken;
-    }
-    lay_piece(
-        rt,
-        read::front(&piece, m),
-        read::front_mut(&mut memory, n),
-        q.short(5),
-    )
+    let memory = read::octets(rt, &mut memory, q.short(1))?;
+    let piece = read::octets(rt, &mut piece, q.short(3))?;
+    lay_piece(rt, piece, memory, q.short(5))
 }
 
 // The octets that the numbers of each kind of question take.
 const SIZES: [usize; 7] = [0, 7, 2, 2, 27, 7, 7];
 
-fn question(rt: HostRuntime, q: Question) -> Went {
+fn question(rt: HostRuntime, q: Question) -> Result<(), Stop> {
     match q.octet(0) {
         1 => over_octets(rt, q, true),
         2 => octet(rt, q.octet(1)),
@@ -185,15 +163,6 @@ fn question(rt: HostRuntime, q: Question) -> Went {
     }
 }
 
-// A proved loop has to end, and nothing says that the input does: it has more turns than any input.
 fn main(rt: HostRuntime) -> ExitCode {
-    let mut went = Went::start(rt);
-    for _ in 0..u32::MAX {
-        let q = went.next(rt, b"test_ground", &SIZES);
-        if !q.asked {
-            return went.status();
-        }
-        went = question(rt, q);
-    }
-    ExitCode::SUCCESS
+    test_questions::run(rt, b"test_ground", &SIZES, |q| question(rt, q))
 }

@@ -9,11 +9,11 @@ use crate::tally::Tally;
 use cut::Ask;
 use sender_answers::Answer;
 use std::process::ExitCode;
-use test_questions::went::Went;
+use test_questions::stop::Stop;
 use test_questions::{read, say};
 
 // The state of an entry: the number drawn last, both ends, the body of the frame chosen last, what is counted, the mFrame that the turn wrote
-// (none: no octets), and whether its answer could be put out.
+// (none: no octets).
 #[derive(Clone, Copy)]
 struct Link {
     x: u32,
@@ -25,20 +25,18 @@ struct Link {
     wrote: usize,
     preemptable: bool,
     done: bool,
-    written: Went,
 }
 
 // What a call wrote, or that it refused.
 fn wrote(l: Link, answer: Answer, preemptable: bool) -> Link {
-    let mut next = l;
-    next.preemptable = preemptable;
     match answer {
-        Answer::Wrote { length, done } => {
-            next.wrote = length;
-            next.done = done;
-            next
-        }
-        Answer::Refused(_) => next,
+        Answer::Wrote { length, done } => Link {
+            wrote: length,
+            done,
+            preemptable,
+            ..l
+        },
+        Answer::Refused(_) => Link { preemptable, ..l },
     }
 }
 
@@ -63,11 +61,12 @@ fn chosen(l: Link) -> Link {
         return l;
     }
     let x = chance::step(l.x);
-    let mut next = l;
-    next.x = x;
-    next.seed = x;
-    next.length = chance::length(x);
-    next
+    Link {
+        x,
+        seed: x,
+        length: chance::length(x),
+        ..l
+    }
 }
 
 fn preemptable(first: Link, out: &mut [u8; 1530]) -> Link {
@@ -78,12 +77,12 @@ fn preemptable(first: Link, out: &mut [u8; 1530]) -> Link {
     let s = l.sender;
     chance::fill(l.seed, &mut body);
     let sent = send::preemptable(s, read::front(&body, l.length), ask_of(a, x), out);
-    let answer = sent.answer;
-    let after = sent.after;
-    let mut on = l;
-    on.x = x;
-    on.sender = after;
-    wrote(on, answer, true)
+    let on = Link {
+        x,
+        sender: sent.after,
+        ..l
+    };
+    wrote(on, sent.answer, true)
 }
 
 // A setting of the sender from a draw: hold or extra.
@@ -129,11 +128,14 @@ fn say_body(rt: HostRuntime, body: &[u8]) {
 }
 
 // An mFrame that arrives: the receiver's answer.
-fn arrive(rt: HostRuntime, l: Link, mframe: &[u8], buffer: &mut [u8; 1518]) -> Link {
-    let r = l.receiver;
-    let got = receive::receive(mframe, r, buffer);
+fn arrive(
+    rt: HostRuntime,
+    l: Link,
+    mframe: &[u8],
+    buffer: &mut [u8; 1518],
+) -> Result<Link, Stop> {
+    let got = receive::receive(mframe, l.receiver, buffer);
     let answer = got.answer;
-    let after = got.after;
     let number = answer.number();
     let detail = answer.detail();
     say::first(rt, number as u64);
@@ -144,13 +146,12 @@ fn arrive(rt: HostRuntime, l: Link, mframe: &[u8], buffer: &mut [u8; 1518]) -> L
     if number == 1 {
         say_body(rt, read::front(buffer, detail));
     }
-    let t = l.tally;
-    let tally = t.answered(number);
-    let mut next = l;
-    next.receiver = after;
-    next.tally = tally;
-    next.written = say::line_end(rt);
-    next
+    say::line_end(rt)?;
+    Ok(Link {
+        receiver: got.after,
+        tally: l.tally.answered(number),
+        ..l
+    })
 }
 
 // Whether an mFrame is lost, from a draw. A preemptable one is not while three in a row were.
@@ -161,26 +162,25 @@ fn is_lost(x: u32, preemptable: bool, run: u32) -> bool {
     chance::one_of(x, 3) == 0
 }
 
-// How many octets 55 lead an mFrame, up to a number.
-fn leading(mframe: &[u8], most: u32) -> u32 {
-    for k in 0..most {
-        if mframe.len() <= k as usize {
-            return k;
-        }
-        if mframe[k as usize] != 0x55 {
-            return k;
-        }
-    }
-    most
-}
-
 // An mFrame without so many of its leading octets 55, or as many as it has.
 fn shortened(mframe: &[u8], dropped: u32) -> &[u8] {
-    read::behind(mframe, leading(mframe, dropped) as usize)
+    let mut rest = mframe;
+    for _ in 0..dropped {
+        let Some((0x55, behind)) = rest.split_first() else {
+            return rest;
+        };
+        rest = behind;
+    }
+    rest
 }
 
 // The fate of an mFrame: lost, or how many of its leading octets 55 the link drops.
-fn fate(rt: HostRuntime, l: Link, out: &[u8], buffer: &mut [u8; 1518]) -> Link {
+fn fate(
+    rt: HostRuntime,
+    l: Link,
+    out: &[u8],
+    buffer: &mut [u8; 1518],
+) -> Result<Link, Stop> {
     let x = chance::step(l.x);
     let t = l.tally;
     let lost = is_lost(x, l.preemptable, t.run);
@@ -191,7 +191,7 @@ fn fate(rt: HostRuntime, l: Link, out: &[u8], buffer: &mut [u8; 1518]) -> Link {
         next.tally = tally;
     }
     if lost {
-        return next;
+        return Ok(next);
     }
     let y = chance::step(x);
     next.x = y;
@@ -203,7 +203,7 @@ fn fate(rt: HostRuntime, l: Link, out: &[u8], buffer: &mut [u8; 1518]) -> Link {
     )
 }
 
-fn say_end(rt: HostRuntime, l: Link) -> Went {
+fn say_end(rt: HostRuntime, l: Link) -> Result<(), Stop> {
     let t = l.tally;
     let r = l.receiver;
     let c = r.counters;
@@ -216,16 +216,21 @@ fn say_end(rt: HostRuntime, l: Link) -> Went {
     say::line_end(rt)
 }
 
-fn one_turn(rt: HostRuntime, before: Link, out: &mut [u8; 1530], buffer: &mut [u8; 1518]) -> Link {
+fn one_turn(
+    rt: HostRuntime,
+    before: Link,
+    out: &mut [u8; 1530],
+    buffer: &mut [u8; 1518],
+) -> Result<Link, Stop> {
     let l = send_one(before, out);
     if l.wrote == 0 {
-        return l;
+        return Ok(l);
     }
     fate(rt, l, out, buffer)
 }
 
 // All turns of an entry.
-fn play(rt: HostRuntime, seed: u32, turns: u32) -> Went {
+fn play(rt: HostRuntime, seed: u32, turns: u32) -> Result<(), Stop> {
     let mut out = [0u8; 1530];
     let mut buffer = [0u8; 1518];
     let mut l = Link {
@@ -238,26 +243,13 @@ fn play(rt: HostRuntime, seed: u32, turns: u32) -> Went {
         wrote: 0,
         preemptable: false,
         done: false,
-        written: Went::On,
     };
     for _ in 0..turns {
-        l = one_turn(rt, l, &mut out, &mut buffer);
-        if !l.written.is_on() {
-            return l.written;
-        }
+        l = one_turn(rt, l, &mut out, &mut buffer)?;
     }
     say_end(rt, l)
 }
 
-// A proved loop has to end, and nothing says that the input does: it has more turns than any input.
 fn main(rt: HostRuntime) -> ExitCode {
-    let mut went = Went::start(rt);
-    for _ in 0..u32::MAX {
-        let q = went.next(rt, b"test_link", &[8]);
-        if !q.asked {
-            return went.status();
-        }
-        went = play(rt, q.word(0), q.word(4));
-    }
-    ExitCode::SUCCESS
+    test_questions::run(rt, b"test_link", &[8], |q| play(rt, q.word(0), q.word(4)))
 }

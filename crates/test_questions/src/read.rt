@@ -1,27 +1,32 @@
 // Reads a question from standard input: the octets of its numbers, and the octets that follow them.
 ghost use Rattle.std.specs.Prelude.{◌+◌, ◌≤◌};
 
-use crate::went::Went;
+use crate::stop::Stop;
 use std::io::Read;
 
-// The octets of a question's numbers, its kind in front, where one was asked.
+// The octets of a question's numbers, its kind in front.
 #[derive(Clone, Copy)]
 pub struct Question {
-    pub asked: bool,
-    pub octets: [u8; 32],
+    octets: [u8; 32],
 }
 
 impl Question {
-    pub const NONE: Question = Question {
-        asked: false,
-        octets: [0; 32],
-    };
-
     // The question of so many octets that begins with this one.
-    pub(crate) fn begun(rt: HostRuntime, first: u8, size: usize) -> Question {
+    fn begun(rt: HostRuntime, first: u8, size: usize) -> Result<Question, Stop> {
         let mut octets = [first; 32];
-        let asked = part(rt, &mut octets, 1, size);
-        Question { asked, octets }
+        let rest = octets.get_mut(1..size).ok_or(Stop::Broken)?;
+        fill(rt, rest)?;
+        Ok(Question { octets })
+    }
+
+    // The question that comes next, whose numbers take the size of its kind, or none where the input has ended before it.
+    pub(crate) fn next(rt: HostRuntime, sizes: &[usize]) -> Result<Option<Question>, Stop> {
+        let mut first = [0u8; 1];
+        match rt.stdin().read(&mut first) {
+            Ok(0) => Ok(None),
+            Ok(_) => Ok(Some(Question::begun(rt, first[0], size_of(first[0], sizes))?)),
+            Err(_) => Err(Stop::Unread),
+        }
     }
 
     // The numbers, by their place, low octet first.
@@ -34,18 +39,15 @@ impl Question {
     pub fn short(self, at: usize) -> usize
         requires { at + 2 ≤ 32 }
     {
-        joined(self.octet(at), self.octet(at + 1), 0, 0) as usize
+        let o = self.octets;
+        usize::from(u16::from_le_bytes([o[at], o[at + 1]]))
     }
 
     pub fn word(self, at: usize) -> u32
         requires { at + 4 ≤ 32 }
     {
-        joined(
-            self.octet(at),
-            self.octet(at + 1),
-            self.octet(at + 2),
-            self.octet(at + 3),
-        )
+        let o = self.octets;
+        u32::from_le_bytes([o[at], o[at + 1], o[at + 2], o[at + 3]])
     }
 
     pub fn long(self, at: usize) -> usize
@@ -55,56 +57,49 @@ impl Question {
     }
 }
 
-fn joined(a: u8, b: u8, c: u8, d: u8) -> u32 {
-    a as u32 + b as u32 * 256 + c as u32 * 65536 + d as u32 * 16777216
-}
-
-// A question's first octet. Before it the input may end.
-pub(crate) fn first(rt: HostRuntime, space: &mut [u8; 1]) -> Went {
-    match rt.stdin().read(space) {
-        Ok(0) => Went::Over,
-        Ok(_) => Went::On,
-        Err(_) => Went::Unread,
+// How many octets the numbers of a question take, which begins with its kind: the size of that kind, or 0 where there is no such kind. Where
+// only one size is given, questions have no kind.
+fn size_of(kind: u8, sizes: &[usize]) -> usize {
+    match sizes {
+        [size] => *size,
+        _ => sizes.get(usize::from(kind)).copied().unwrap_or(0),
     }
 }
 
-// Whether the octets of the space from one place up to another were filled; false where it has no such part.
-pub fn part(rt: HostRuntime, space: &mut [u8], from: usize, to: usize) -> bool {
-    if to < from {
-        return false;
-    }
-    if space.len() < to {
-        return false;
-    }
-    rt.stdin().read_exact(&mut space[from..to]).is_ok()
+// Fills memory with the octets that come next.
+fn fill(rt: HostRuntime, space: &mut [u8]) -> Result<(), Stop> {
+    rt.stdin().read_exact(space).map_err(|_| Stop::Broken)
 }
 
-// Lent memory: the first n octets of the space, or all where there are fewer. No call wrote them: place i has the octet (first + i) modulo 256.
-pub fn lent(space: &mut [u8], n: usize, first: u8) -> &mut [u8] {
-    crate::fill(space, first);
-    front_mut(space, n)
+// The octets that come next, so many, read into the front of the space.
+pub fn octets(rt: HostRuntime, space: &mut [u8], n: usize) -> Result<&mut [u8], Stop> {
+    let part = space.get_mut(..n).ok_or(Stop::Broken)?;
+    fill(rt, part)?;
+    Ok(part)
 }
 
-// The first n octets, or all where there are fewer.
-pub fn front(space: &[u8], n: usize) -> &[u8] {
-    if space.len() < n {
-        return space;
+// Lent memory: the first n octets of the space. No call wrote them: place i has the octet (first + i) modulo 256.
+pub fn lent(space: &mut [u8], n: usize, first: u8) -> Result<&mut [u8], Stop> {
+    let mut x = first;
+    for place in &mut *space {
+        *place = x;
+        x = x.wrapping_add(1);
     }
-    &space[0..n]
+    space.get_mut(..n).ok_or(Stop::Broken)
 }
 
-// The octets behind the first n, or none where there are fewer.
+// The first n, or all where there are fewer.
+pub fn front<T>(space: &[T], n: usize) -> &[T] {
+    space.get(..n).unwrap_or(space)
+}
+
+// What stands behind the first n, or none where there are fewer.
 pub fn behind(space: &[u8], n: usize) -> &[u8] {
-    if space.len() < n {
-        return &space[0..0];
-    }
-    &space[n..]
+    space.get(n..).unwrap_or(&[])
 }
 
-// The same to write to.
-pub fn front_mut(space: &mut [u8], n: usize) -> &mut [u8] {
-    if space.len() < n {
-        return space;
-    }
-    &mut space[0..n]
+// The same as the front, to write to.
+pub fn front_mut<T>(space: &mut [T], n: usize) -> &mut [T] {
+    let n = n.min(space.len());
+    &mut space[..n]
 }

@@ -1,13 +1,13 @@
 // Writes the words of an answer to standard output. Words are parted by one blank.
-use crate::went::Went;
+use crate::stop::Stop;
 
 pub fn text(rt: HostRuntime, words: &[u8]) {
     let _ = rt.write_all(words);
 }
 
 // Whether the line could be ended. An output that took no word does not take a line's end either, so that nobody else has to ask.
-pub fn line_end(rt: HostRuntime) -> Went {
-    Went::answered(rt.write_all(b"\n"))
+pub fn line_end(rt: HostRuntime) -> Result<(), Stop> {
+    Ok(rt.write_all(b"\n")?)
 }
 
 pub fn number(rt: HostRuntime, n: u64) {
@@ -15,7 +15,7 @@ pub fn number(rt: HostRuntime, n: u64) {
 }
 
 pub fn small(rt: HostRuntime, n: u8) {
-    number(rt, n as u64);
+    number(rt, u64::from(n));
 }
 
 // A word and a number.
@@ -38,17 +38,13 @@ pub fn octets(rt: HostRuntime, x: [u8; 4]) {
 // Any number of octets, each in two digits.
 pub fn hex_octets(rt: HostRuntime, x: &[u8]) {
     for octet in x {
-        hex_octet(rt, *octet);
+        let _ = print!(rt; "{octet:02x}");
     }
-}
-
-fn hex_octet(rt: HostRuntime, x: u8) {
-    let _ = print!(rt; "{x:02x}");
 }
 
 // 1 or 0.
 pub fn flag(rt: HostRuntime, x: bool) {
-    small(rt, x as u8);
+    small(rt, u8::from(x));
 }
 
 // A number at the front of a line.

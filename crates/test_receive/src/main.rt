@@ -2,79 +2,25 @@
 // the reference alone.
 #![tactic(auto)]
 
-use codes::{FragmentCount, FrameCount};
-use counters::Counters;
 use receiver_answers::Answer;
 use receiver_record::Record;
 use std::process::ExitCode;
 use test_questions::read::Question;
-use test_questions::went::Went;
+use test_questions::stop::Stop;
 use test_questions::{read, say};
+use test_receivers::{record, say_check, say_record};
 
-// What is kept from question to question: the record, how many octets of the lent space are the buffer, and how the last one went.
+// What is kept from question to question: the record, and lent memory, of which so many octets are the buffer.
 #[derive(Clone, Copy)]
 struct Kept {
     record: Record,
-    buffer: usize,
-    went: Went,
-}
-
-fn after(kept: Kept, went: Went) -> Kept {
-    Kept { went, ..kept }
-}
-
-fn record(kept: Kept, q: Question) -> Kept {
-    Kept {
-        record: Record {
-            assembling: q.octet(1) != 0,
-            frame: FrameCount(q.octet(2)),
-            fragment: FragmentCount(q.octet(3)),
-            kept: q.long(4),
-            running: q.word(12),
-            counters: Counters {
-                errors: q.word(16),
-                delimiters: q.word(20),
-                assembled: q.word(24),
-                fragments: q.word(28),
-            },
-        },
-        buffer: kept.buffer,
-        went: Went::On,
-    }
-}
-
-fn buffer(kept: Kept, q: Question, space: &mut [u8]) -> Kept {
-    let n = q.short(1);
-    if read::lent(space, n, q.octet(3)).len() < n {
-        return after(kept, Went::Broken);
-    }
-    Kept { buffer: n, ..kept }
+    space: [u8; 2048],
+    room: usize,
 }
 
 fn say_answer(rt: HostRuntime, answer: Answer) {
     say::first(rt, answer.number() as u64);
     say::number(rt, answer.detail() as u64);
-}
-
-fn say_record(rt: HostRuntime, r: Record) {
-    let frame = r.frame;
-    let fragment = r.fragment;
-    say::flag(rt, r.assembling);
-    say::small(rt, frame.0);
-    say::small(rt, fragment.0);
-    say::number(rt, r.kept as u64);
-    say::word(rt, r.running as u64);
-}
-
-fn say_counters(rt: HostRuntime, c: Counters) {
-    say::number(rt, c.errors as u64);
-    say::number(rt, c.delimiters as u64);
-    say::number(rt, c.assembled as u64);
-    say::number(rt, c.fragments as u64);
-}
-
-fn say_check(rt: HostRuntime, octets: &[u8]) {
-    say::octets(rt, crc::fcs(crc::over(crc::ALL_ONES, octets)));
 }
 
 // Where the express body begins, as the call for C tells it: a program cannot see where a slice lies.
@@ -91,64 +37,37 @@ fn say_body(rt: HostRuntime, mframe: &[u8]) {
     say_check(rt, body);
 }
 
-fn receive_into(rt: HostRuntime, kept: Kept, mframe: &[u8], buffer: &mut [u8]) -> Kept {
-    let r = kept.record;
-    let got = receive::receive(mframe, r, buffer);
-    let answer = got.answer;
-    let record = got.after;
-    let counters = record.counters;
-    say_answer(rt, answer);
-    say_record(rt, record);
-    say_counters(rt, counters);
+fn mframe(rt: HostRuntime, kept: &mut Kept, q: Question) -> Result<(), Stop> {
+    let mut octets = [0u8; 2048];
+    let mframe = read::octets(rt, &mut octets, q.short(1))?;
+    let buffer = read::front_mut(&mut kept.space, kept.room);
+    let got = receive::receive(mframe, kept.record, buffer);
+    let after = got.after;
+    say_answer(rt, got.answer);
+    say_record(rt, after);
     say_check(rt, buffer);
     say_body(rt, mframe);
-    Kept {
-        record,
-        buffer: kept.buffer,
-        went: say::line_end(rt),
-    }
-}
-
-fn mframe(rt: HostRuntime, kept: Kept, q: Question, space: &mut [u8]) -> Kept {
-    let mut octets = [0u8; 2048];
-    let n = q.short(1);
-    if !read::part(rt, &mut octets, 0, n) {
-        return after(kept, Went::Broken);
-    }
-    receive_into(
-        rt,
-        kept,
-        read::front(&octets, n),
-        read::front_mut(space, kept.buffer),
-    )
+    kept.record = after;
+    say::line_end(rt)
 }
 
 // The octets that the numbers of each kind of question take.
 const SIZES: [usize; 4] = [0, 32, 4, 3];
 
-fn question(rt: HostRuntime, kept: Kept, q: Question, space: &mut [u8]) -> Kept {
+fn question(rt: HostRuntime, kept: &mut Kept, q: Question) -> Result<(), Stop> {
     match q.octet(0) {
-        1 => record(kept, q),
-        2 => buffer(kept, q, space),
-        _ => mframe(rt, kept, q, space),
+        1 => kept.record = record(q),
+        2 => kept.room = read::lent(&mut kept.space, q.short(1), q.octet(3))?.len(),
+        _ => mframe(rt, kept, q)?,
     }
+    Ok(())
 }
 
-// A proved loop has to end, and nothing says that the input does: it has more turns than any input.
 fn main(rt: HostRuntime) -> ExitCode {
-    let mut space = [0u8; 2048];
     let mut kept = Kept {
         record: Record::fresh(),
-        buffer: 0,
-        went: Went::start(rt),
+        space: [0; 2048],
+        room: 0,
     };
-    for _ in 0..u32::MAX {
-        let went = kept.went;
-        let q = went.next(rt, b"test_receive", &SIZES);
-        if !q.asked {
-            return went.status();
-        }
-        kept = question(rt, kept, q, &mut space);
-    }
-    ExitCode::SUCCESS
+    test_questions::run(rt, b"test_receive", &SIZES, |q| question(rt, &mut kept, q))
 }

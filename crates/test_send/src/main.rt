@@ -8,19 +8,15 @@ use sender_answers::Answer;
 use sender_record::Record;
 use std::process::ExitCode;
 use test_questions::read::Question;
-use test_questions::went::Went;
+use test_questions::stop::Stop;
 use test_questions::{read, say};
 
-// What is kept from question to question: the record, how many octets of the lent space are the body, and how the last one went.
+// What is kept from question to question: the record, and the body, of which so many octets were given.
 #[derive(Clone, Copy)]
 struct Kept {
     record: Record,
-    body: usize,
-    went: Went,
-}
-
-fn after(kept: Kept, went: Went) -> Kept {
-    Kept { went, ..kept }
+    space: [u8; 2048],
+    given: usize,
 }
 
 // The answer, and the FCS of all of the buffer.
@@ -51,134 +47,93 @@ fn say_record(rt: HostRuntime, r: Record) {
 }
 
 // The answer of a call that keeps no record, behind the call's name.
-fn answered(rt: HostRuntime, name: &[u8], answer: Answer, out: &[u8]) -> Went {
+fn answered(
+    rt: HostRuntime,
+    name: &[u8],
+    answer: Answer,
+    out: &[u8],
+) -> Result<(), Stop> {
     say::text(rt, name);
     say_answer(rt, answer, out);
     say::line_end(rt)
 }
 
-fn express(rt: HostRuntime, q: Question) -> Went {
+fn express(rt: HostRuntime, q: Question) -> Result<(), Stop> {
     let mut body = [0u8; 2048];
     let mut space = [0u8; 2048];
-    let n = q.short(1);
-    let room = q.short(3);
-    if !read::part(rt, &mut body, 0, n) {
-        return Went::Broken;
-    }
-    let out = read::lent(&mut space, room, q.octet(5));
-    if out.len() < room {
-        return Went::Broken;
-    }
-    answered(
-        rt,
-        b"express",
-        single::express(read::front(&body, n), out),
-        out,
-    )
+    let body = read::octets(rt, &mut body, q.short(1))?;
+    let out = read::lent(&mut space, q.short(3), q.octet(5))?;
+    answered(rt, b"express", single::express(body, out), out)
 }
 
 // A call that is given nothing but memory: verify or respond.
-fn order(rt: HostRuntime, q: Question, verify: bool) -> Went {
+fn order(rt: HostRuntime, q: Question, verify: bool) -> Result<(), Stop> {
     let mut space = [0u8; 2048];
-    let room = q.short(1);
-    let out = read::lent(&mut space, room, q.octet(3));
-    if out.len() < room {
-        return Went::Broken;
-    }
+    let out = read::lent(&mut space, q.short(1), q.octet(3))?;
     if verify {
         return answered(rt, b"verify", single::verify(out), out);
     }
     answered(rt, b"respond", single::respond(out), out)
 }
 
-fn record(kept: Kept, q: Question) -> Kept {
-    Kept {
-        record: Record {
-            active: q.octet(1) != 0,
-            hold: q.octet(2) != 0,
-            extra: q.octet(3),
-            next: FrameCount(q.octet(4)),
-            length: q.long(5),
-            sent: q.long(13),
-            fragment: FragmentCount(q.octet(21)),
-        },
-        body: kept.body,
-        went: Went::On,
+fn record(q: Question) -> Record {
+    Record {
+        active: q.octet(1) != 0,
+        hold: q.octet(2) != 0,
+        extra: q.octet(3),
+        next: FrameCount(q.octet(4)),
+        length: q.long(5),
+        sent: q.long(13),
+        fragment: FragmentCount(q.octet(21)),
     }
-}
-
-fn body(rt: HostRuntime, kept: Kept, q: Question, space: &mut [u8; 2048]) -> Kept {
-    let n = q.short(1);
-    if !read::part(rt, space, 0, n) {
-        return after(kept, Went::Broken);
-    }
-    Kept { body: n, ..kept }
 }
 
 fn ask_of(asked: u8, t: usize) -> Ask {
     if asked == 0 { Ask::None } else { Ask::At(t) }
 }
 
-fn preemptable(rt: HostRuntime, kept: Kept, q: Question, body: &[u8; 2048]) -> Kept {
+fn preemptable(rt: HostRuntime, kept: &mut Kept, q: Question) -> Result<(), Stop> {
     let mut space = [0u8; 2048];
-    let room = q.short(10);
-    let out = read::lent(&mut space, room, q.octet(12));
-    if out.len() < room {
-        return after(kept, Went::Broken);
-    }
-    let r = kept.record;
-    let n = kept.body;
-    let sent = send::preemptable(r, read::front(body, n), ask_of(q.octet(1), q.long(2)), out);
-    let answer = sent.answer;
-    let record = sent.after;
+    let out = read::lent(&mut space, q.short(10), q.octet(12))?;
+    let body = read::front(&kept.space, kept.given);
+    let sent = send::preemptable(kept.record, body, ask_of(q.octet(1), q.long(2)), out);
+    kept.record = sent.after;
     say::text(rt, b"preemptable");
-    say_answer(rt, answer, out);
-    say_record(rt, record);
-    Kept {
-        record,
-        body: n,
-        went: say::line_end(rt),
-    }
+    say_answer(rt, sent.answer, out);
+    say_record(rt, sent.after);
+    say::line_end(rt)
 }
 
-fn settings(kept: Kept, q: Question) -> Kept {
-    let mut record = kept.record;
-    record.active = q.octet(1) != 0;
-    record.hold = q.octet(2) != 0;
-    record.extra = q.octet(3);
-    Kept { record, ..kept }
+fn settings(record: Record, q: Question) -> Record {
+    Record {
+        active: q.octet(1) != 0,
+        hold: q.octet(2) != 0,
+        extra: q.octet(3),
+        ..record
+    }
 }
 
 // The octets that the numbers of each kind of question take.
 const SIZES: [usize; 8] = [0, 6, 4, 4, 22, 3, 13, 4];
 
-fn question(rt: HostRuntime, kept: Kept, q: Question, space: &mut [u8; 2048]) -> Kept {
+fn question(rt: HostRuntime, kept: &mut Kept, q: Question) -> Result<(), Stop> {
     match q.octet(0) {
-        1 => after(kept, express(rt, q)),
-        2 => after(kept, order(rt, q, true)),
-        3 => after(kept, order(rt, q, false)),
-        4 => record(kept, q),
-        5 => body(rt, kept, q, space),
-        6 => preemptable(rt, kept, q, space),
-        _ => settings(kept, q),
+        1 => express(rt, q)?,
+        2 => order(rt, q, true)?,
+        3 => order(rt, q, false)?,
+        4 => kept.record = record(q),
+        5 => kept.given = read::octets(rt, &mut kept.space, q.short(1))?.len(),
+        6 => preemptable(rt, kept, q)?,
+        _ => kept.record = settings(kept.record, q),
     }
+    Ok(())
 }
 
-// A proved loop has to end, and nothing says that the input does: it has more turns than any input.
 fn main(rt: HostRuntime) -> ExitCode {
-    let mut space = [0u8; 2048];
     let mut kept = Kept {
         record: Record::fresh(true, false, 0),
-        body: 0,
-        went: Went::start(rt),
+        space: [0; 2048],
+        given: 0,
     };
-    for _ in 0..u32::MAX {
-        let went = kept.went;
-        let q = went.next(rt, b"test_send", &SIZES);
-        if !q.asked {
-            return went.status();
-        }
-        kept = question(rt, kept, q, &mut space);
-    }
-    ExitCode::SUCCESS
+    test_questions::run(rt, b"test_send", &SIZES, |q| question(rt, &mut kept, q))
 }

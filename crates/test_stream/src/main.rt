@@ -2,69 +2,52 @@
 // the answers expected come from the reference alone.
 #![tactic(auto)]
 
-use codes::{FragmentCount, FrameCount};
-use counters::Counters;
 use receiver_record::Record;
 use std::process::ExitCode;
-use stream::{Given, Reply, State};
+use stream::{Given, Refusal, Reply, State};
 use test_questions::read::Question;
-use test_questions::went::Went;
+use test_questions::stop::Stop;
 use test_questions::{read, say};
+use test_receivers::{record, say_check, say_record};
 
-// What is kept from question to question: the state, the record, how many octets of the lent spaces are the area and the buffer, and how the last
-// one went.
+// Lent memory: the first octets of a space, so many.
+#[derive(Clone, Copy)]
+struct Lent {
+    space: [u8; 2048],
+    room: usize,
+}
+
+impl Lent {
+    const NONE: Lent = Lent {
+        space: [0; 2048],
+        room: 0,
+    };
+
+    fn octets(&mut self) -> &mut [u8] {
+        let room = self.room;
+        read::front_mut(&mut self.space, room)
+    }
+
+    fn lend(&mut self, q: Question) -> Result<(), Stop> {
+        self.room = read::lent(&mut self.space, q.short(1), q.octet(3))?.len();
+        Ok(())
+    }
+}
+
+// What is kept from question to question: the state, the record, the area and the buffer.
 #[derive(Clone, Copy)]
 struct Kept {
     state: State,
     record: Record,
-    area: usize,
-    buffer: usize,
-    went: Went,
+    area: Lent,
+    buffer: Lent,
 }
 
-fn after(kept: Kept, went: Went) -> Kept {
-    Kept { went, ..kept }
-}
-
-fn record(kept: Kept, q: Question) -> Kept {
-    let record = Record {
-        assembling: q.octet(1) != 0,
-        frame: FrameCount(q.octet(2)),
-        fragment: FragmentCount(q.octet(3)),
-        kept: q.long(4),
-        running: q.word(12),
-        counters: Counters {
-            errors: q.word(16),
-            delimiters: q.word(20),
-            assembled: q.word(24),
-            fragments: q.word(28),
-        },
-    };
-    Kept { record, ..kept }
-}
-
-fn buffer(kept: Kept, q: Question, space: &mut [u8]) -> Kept {
-    let n = q.short(1);
-    if read::lent(space, n, q.octet(3)).len() < n {
-        return after(kept, Went::Broken);
-    }
-    Kept { buffer: n, ..kept }
-}
-
-fn area(kept: Kept, q: Question, space: &mut [u8]) -> Kept {
-    let n = q.short(1);
-    if read::lent(space, n, q.octet(3)).len() < n {
-        return after(kept, Went::Broken);
-    }
-    Kept { area: n, ..kept }
-}
-
-fn state(kept: Kept, q: Question) -> Kept {
-    let state = State {
+fn state(q: Question) -> State {
+    State {
         count: q.word(1),
         more: q.octet(5) != 0,
-    };
-    Kept { state, ..kept }
+    }
 }
 
 // How many calls answered that they wait, how many 18 and how many 19. A question has too few octets for more than 32 bits.
@@ -75,10 +58,6 @@ struct Tally {
     unsound: u32,
 }
 
-fn plus(n: u32, so: bool) -> u32 {
-    std::num::wrapping_add_u32(n, so as u32)
-}
-
 impl Tally {
     const NONE: Tally = Tally {
         waited: 0,
@@ -86,18 +65,13 @@ impl Tally {
         unsound: 0,
     };
 
-    fn with(self, reply: Reply) -> Tally {
-        let mut t = self;
+    fn count(&mut self, reply: Reply) {
         match reply {
-            Reply::Waits => t.waited = plus(self.waited, true),
-            Reply::Refused(refusal) => {
-                let number = refusal.number();
-                t.short = plus(self.short, number == 18);
-                t.unsound = plus(self.unsound, number == 19);
-            }
+            Reply::Waits => self.waited = self.waited.wrapping_add(1),
+            Reply::Refused(Refusal::Area) => self.short = self.short.wrapping_add(1),
+            Reply::Refused(Refusal::State) => self.unsound = self.unsound.wrapping_add(1),
             Reply::Answered(_) => {}
         }
-        t
     }
 }
 
@@ -106,61 +80,14 @@ fn say_state(rt: HostRuntime, s: State) {
     say::flag(rt, s.more);
 }
 
-fn say_record(rt: HostRuntime, r: Record) {
-    let frame = r.frame;
-    let fragment = r.fragment;
-    say::flag(rt, r.assembling);
-    say::small(rt, frame.0);
-    say::small(rt, fragment.0);
-    say::number(rt, r.kept as u64);
-    say::word(rt, r.running as u64);
-}
-
-fn say_counters(rt: HostRuntime, c: Counters) {
-    say::number(rt, c.errors as u64);
-    say::number(rt, c.delimiters as u64);
-    say::number(rt, c.assembled as u64);
-    say::number(rt, c.fragments as u64);
-}
-
-fn say_check(rt: HostRuntime, octets: &[u8]) {
-    say::octets(rt, crc::fcs(crc::over(crc::ALL_ONES, octets)));
-}
-
-// How far the octets of a question came, a call for each.
-#[derive(Clone, Copy)]
-struct Run {
-    state: State,
-    record: Record,
-    tally: Tally,
-}
-
-fn give(run: Run, octet: u8, area: &mut [u8], buffer: &mut [u8]) -> Run {
-    let before = run.tally;
-    let got = stream::stream(Given::Octet(octet), run.state, area, run.record, buffer);
-    let state = got.state;
-    let record = got.after;
-    let reply = got.reply;
-    let tally = before.with(reply);
-    Run {
-        state,
-        record,
-        tally,
-    }
-}
-
-fn give_all(kept: Kept, octets: &[u8], area: &mut [u8], buffer: &mut [u8]) -> Run {
-    let state = kept.state;
-    let record = kept.record;
-    let mut run = Run {
-        state,
-        record,
-        tally: Tally::NONE,
-    };
-    for octet in octets {
-        run = give(run, *octet, area, buffer);
-    }
-    run
+// An octet or the end, given to the receiver; its reply.
+fn give(kept: &mut Kept, given: Given) -> Reply {
+    let area = kept.area.octets();
+    let buffer = kept.buffer.octets();
+    let got = stream::stream(given, kept.state, area, kept.record, buffer);
+    kept.state = got.state;
+    kept.record = got.after;
+    got.reply
 }
 
 fn say_tally(rt: HostRuntime, t: Tally) {
@@ -169,37 +96,17 @@ fn say_tally(rt: HostRuntime, t: Tally) {
     say::number(rt, t.unsound as u64);
 }
 
-fn take(rt: HostRuntime, kept: Kept, octets: &[u8], area: &mut [u8], buffer: &mut [u8]) -> Kept {
-    let run = give_all(kept, octets, area, buffer);
-    let state = run.state;
-    let record = run.record;
-    let tally = run.tally;
+fn octets(rt: HostRuntime, kept: &mut Kept, q: Question) -> Result<(), Stop> {
+    let mut space = [0u8; 2048];
+    let mut tally = Tally::NONE;
+    for octet in read::octets(rt, &mut space, q.short(1))? {
+        tally.count(give(kept, Given::Octet(*octet)));
+    }
     say::text(rt, b"octets");
     say_tally(rt, tally);
-    say_state(rt, state);
-    say_check(rt, area);
-    let went = say::line_end(rt);
-    Kept {
-        state,
-        record,
-        went,
-        ..kept
-    }
-}
-
-fn octets(rt: HostRuntime, kept: Kept, q: Question, area: &mut [u8], buffer: &mut [u8]) -> Kept {
-    let mut space = [0u8; 2048];
-    let n = q.short(1);
-    if !read::part(rt, &mut space, 0, n) {
-        return after(kept, Went::Broken);
-    }
-    take(
-        rt,
-        kept,
-        read::front(&space, n),
-        read::front_mut(area, kept.area),
-        read::front_mut(buffer, kept.buffer),
-    )
+    say_state(rt, kept.state);
+    say_check(rt, kept.area.octets());
+    say::line_end(rt)
 }
 
 fn say_reply(rt: HostRuntime, reply: Reply) {
@@ -217,71 +124,38 @@ fn say_reply(rt: HostRuntime, reply: Reply) {
     }
 }
 
-fn end(rt: HostRuntime, kept: Kept, area: &mut [u8], buffer: &mut [u8]) -> Kept {
-    let got = stream::stream(Given::End, kept.state, area, kept.record, buffer);
-    let reply = got.reply;
-    let state = got.state;
-    let record = got.after;
-    let counters = record.counters;
+fn end(rt: HostRuntime, kept: &mut Kept) -> Result<(), Stop> {
+    let reply = give(kept, Given::End);
     say::text(rt, b"end");
     say_reply(rt, reply);
-    say_state(rt, state);
-    say_record(rt, record);
-    say_counters(rt, counters);
-    say_check(rt, area);
-    say_check(rt, buffer);
-    let went = say::line_end(rt);
-    Kept {
-        state,
-        record,
-        went,
-        ..kept
-    }
+    say_state(rt, kept.state);
+    say_record(rt, kept.record);
+    say_check(rt, kept.area.octets());
+    say_check(rt, kept.buffer.octets());
+    say::line_end(rt)
 }
 
 // The octets that the numbers of each kind of question take.
 const SIZES: [usize; 7] = [0, 32, 4, 4, 6, 3, 1];
 
-fn question(
-    rt: HostRuntime,
-    kept: Kept,
-    q: Question,
-    areas: &mut [u8],
-    buffers: &mut [u8],
-) -> Kept {
+fn question(rt: HostRuntime, kept: &mut Kept, q: Question) -> Result<(), Stop> {
     match q.octet(0) {
-        1 => record(kept, q),
-        2 => buffer(kept, q, buffers),
-        3 => area(kept, q, areas),
-        4 => state(kept, q),
-        5 => octets(rt, kept, q, areas, buffers),
-        _ => end(
-            rt,
-            kept,
-            read::front_mut(areas, kept.area),
-            read::front_mut(buffers, kept.buffer),
-        ),
+        1 => kept.record = record(q),
+        2 => kept.buffer.lend(q)?,
+        3 => kept.area.lend(q)?,
+        4 => kept.state = state(q),
+        5 => octets(rt, kept, q)?,
+        _ => end(rt, kept)?,
     }
+    Ok(())
 }
 
-// A proved loop has to end, and nothing says that the input does: it has more turns than any input.
 fn main(rt: HostRuntime) -> ExitCode {
-    let mut areas = [0u8; 2048];
-    let mut buffers = [0u8; 2048];
     let mut kept = Kept {
         state: State::EMPTY,
         record: Record::fresh(),
-        area: 0,
-        buffer: 0,
-        went: Went::start(rt),
+        area: Lent::NONE,
+        buffer: Lent::NONE,
     };
-    for _ in 0..u32::MAX {
-        let went = kept.went;
-        let q = went.next(rt, b"test_stream", &SIZES);
-        if !q.asked {
-            return went.status();
-        }
-        kept = question(rt, kept, q, &mut areas, &mut buffers);
-    }
-    ExitCode::SUCCESS
+    test_questions::run(rt, b"test_stream", &SIZES, |q| question(rt, &mut kept, q))
 }

@@ -5,16 +5,9 @@
 use std::process::ExitCode;
 use test_questions::read::Question;
 use test_questions::say;
-use test_questions::went::Went;
+use test_questions::stop::Stop;
 use verify_answers::Answer;
 use verify_record::{Phase, Record};
-
-// What is kept from question to question: the record, and how the last one went.
-#[derive(Clone, Copy)]
-struct Kept {
-    record: Record,
-    went: Went,
-}
 
 fn phase_of(x: u8) -> Phase {
     match x {
@@ -59,67 +52,47 @@ fn say_record(rt: HostRuntime, r: Record) {
     say::small(rt, r.wait);
 }
 
-fn after(kept: Kept, went: Went) -> Kept {
-    Kept { went, ..kept }
-}
-
-fn record(kept: Kept, q: Question) -> Kept {
+fn record(q: Question) -> Result<Record, Stop> {
     let phase = q.octet(1);
     if 3 < phase {
-        return after(kept, Went::Broken);
+        return Err(Stop::Broken);
     }
-    Kept {
-        record: Record {
-            phase: phase_of(phase),
-            attempt: q.octet(2),
-            left: q.octet(3),
-            owed: q.octet(4) != 0,
-            wait: q.octet(5),
-        },
-        went: Went::On,
-    }
+    Ok(Record {
+        phase: phase_of(phase),
+        attempt: q.octet(2),
+        left: q.octet(3),
+        owed: q.octet(4) != 0,
+        wait: q.octet(5),
+    })
 }
 
-fn event(rt: HostRuntime, kept: Kept, q: Question) -> Kept {
-    let number = q.octet(1) as u32;
+fn event(rt: HostRuntime, record: &mut Record, q: Question) -> Result<(), Stop> {
+    let number = u32::from(q.octet(1));
     if !event_words::is_event(number) {
-        return after(kept, Went::Broken);
+        return Err(Stop::Broken);
     }
-    let r = kept.record;
-    let stepped = verify::step(r, event_words::event_of(number, q.word(2)));
-    let answer = stepped.answer;
-    let record = stepped.after;
-    say_answer(rt, answer);
-    say_record(rt, record);
-    Kept {
-        record,
-        went: say::line_end(rt),
-    }
+    let stepped = verify::step(*record, event_words::event_of(number, q.word(2)));
+    *record = stepped.after;
+    say_answer(rt, stepped.answer);
+    say_record(rt, stepped.after);
+    say::line_end(rt)
 }
 
 // The octets that the numbers of each kind of question take.
 const SIZES: [usize; 3] = [0, 6, 6];
 
-fn question(rt: HostRuntime, kept: Kept, q: Question) -> Kept {
+// The record is kept from question to question.
+fn question(rt: HostRuntime, kept: &mut Record, q: Question) -> Result<(), Stop> {
     match q.octet(0) {
-        1 => record(kept, q),
+        1 => {
+            *kept = record(q)?;
+            Ok(())
+        }
         _ => event(rt, kept, q),
     }
 }
 
-// A proved loop has to end, and nothing says that the input does: it has more turns than any input.
 fn main(rt: HostRuntime) -> ExitCode {
-    let mut kept = Kept {
-        record: Record::fresh(),
-        went: Went::start(rt),
-    };
-    for _ in 0..u32::MAX {
-        let went = kept.went;
-        let q = went.next(rt, b"test_verify", &SIZES);
-        if !q.asked {
-            return went.status();
-        }
-        kept = question(rt, kept, q);
-    }
-    ExitCode::SUCCESS
+    let mut kept = Record::fresh();
+    test_questions::run(rt, b"test_verify", &SIZES, |q| question(rt, &mut kept, q))
 }

@@ -7,7 +7,7 @@ use cut::{Ask, Part};
 use sender_answers::Answer;
 use sender_record::Record;
 use std::process::ExitCode;
-use test_questions::say;
+use test_questions::{say, stop};
 
 fn say_length(rt: HostRuntime, what: &[u8], answer: Answer) {
     say::text(rt, what);
@@ -15,7 +15,7 @@ fn say_length(rt: HostRuntime, what: &[u8], answer: Answer) {
         Answer::Wrote { length, done: _ } => say::number(rt, length as u64),
         Answer::Refused(_) => say::text(rt, b" refused"),
     }
-    say::line_end(rt);
+    let _ = say::line_end(rt);
 }
 
 // The next mFrame of the photograph, and the record after it.
@@ -37,35 +37,19 @@ fn press(rt: HostRuntime) {
 // The octets of an mFrame behind the ask: what is left of the frame, or the part up to the cut and its check octets.
 fn behind(frame: usize, asked: usize) -> usize {
     match cut::next_part(frame, 0, 0, Ask::At(asked)) {
-        Part::Whole => less(frame, asked),
-        Part::Cut(n) => less(n, asked) % 4294967296 + 4,
+        Part::Whole => frame.saturating_sub(asked),
+        Part::Cut(n) => n.saturating_sub(asked) % 4294967296 + 4,
     }
-}
-
-fn less(a: usize, b: usize) -> usize {
-    if a < b { 0 } else { a - b }
-}
-
-fn greater(a: usize, b: usize) -> usize {
-    if a < b { b } else { a }
 }
 
 // The most over every moment of a frame.
 fn most_of(frame: usize) -> usize {
-    let mut most = 0;
-    for asked in 0..frame {
-        most = greater(most, behind(frame, asked));
-    }
-    most
+    (0..frame).map(|asked| behind(frame, asked)).max().unwrap_or(0)
 }
 
 // The most over every frame up to one of so many octets.
 fn most(longest: usize) -> usize {
-    let mut most = 0;
-    for frame in 64..longest {
-        most = greater(most, most_of(frame));
-    }
-    greater(most, most_of(longest))
+    (64..=longest).map(most_of).max().unwrap_or(0)
 }
 
 // The photograph, whole, as a port that isn't active sends it; then asked at its first octet to make way, the press, and the rest; then the
@@ -87,7 +71,5 @@ fn main(rt: HostRuntime) -> ExitCode {
     photograph(rt, b"photograph rest", cut, Ask::None);
     say::text(rt, b"longest wait cut");
     say::number(rt, most(1522) as u64);
-    let went = say::line_end(rt);
-    went.goes_on(rt, b"test_waits");
-    went.status()
+    stop::end(rt, b"test_waits", say::line_end(rt))
 }

@@ -1,0 +1,45 @@
+// What the programs that run stored questions on the two receivers share: a receiving record read from a question, and what is said of one.
+#![tactic(auto)]
+
+use codes::{FragmentCount, FrameCount};
+use counters::Counters;
+use receiver_record::Record;
+use test_questions::read::Question;
+use test_questions::say;
+
+// The record whose fields a question gives.
+pub fn record(q: Question) -> Record {
+    Record {
+        assembling: q.octet(1) != 0,
+        frame: FrameCount(q.octet(2)),
+        fragment: FragmentCount(q.octet(3)),
+        kept: q.long(4),
+        running: q.word(12),
+        counters: Counters {
+            errors: q.word(16),
+            delimiters: q.word(20),
+            assembled: q.word(24),
+            fragments: q.word(28),
+        },
+    }
+}
+
+// Its fields, its counters last.
+pub fn say_record(rt: HostRuntime, r: Record) {
+    let frame = r.frame;
+    let fragment = r.fragment;
+    let c = r.counters;
+    say::flag(rt, r.assembling);
+    say::small(rt, frame.0);
+    say::small(rt, fragment.0);
+    say::number(rt, r.kept as u64);
+    say::word(rt, u64::from(r.running));
+    for count in [c.errors, c.delimiters, c.assembled, c.fragments] {
+        say::number(rt, u64::from(count));
+    }
+}
+
+// The FCS of octets, which stands for all of them.
+pub fn say_check(rt: HostRuntime, octets: &[u8]) {
+    say::octets(rt, crc::fcs(crc::over(crc::ALL_ONES, octets)));
+}
