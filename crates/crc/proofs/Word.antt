@@ -1,15 +1,17 @@
 -- Four octets at once, and a turn of a loop of bit steps.
 -- Assumes nothing.
 use mathlib.Core.Path.{◌≡◌, refl, sym, ap, ◌∙◌}
-use mathlib.Core.List.{List}
-use Prim.Native.Nat.{ℕ, suc, ◌+◌, ◌-◌, ◌*◌, ◌/◌, ◌%◌, ◌^◌, ◌≤◌, ◌<◌}
+use mathlib.Core.List.{List, [], ◌∷◌, ◌++◌}
+use Prim.Native.Nat.{ℕ, zero, suc, ◌+◌, ◌-◌, ◌*◌, ◌/◌, ◌%◌, ◌^◌, ◌≤◌, ◌<◌}
 use native.Mathlib.Nat.{add_comm}
 use native.Mathlib.Omega.{arith}
 use lib.Bits.{bit_xor, xor_shifted, xor_comm, xor_zero_l}
-use lib.ListN.{length, drop, get_or}
+use lib.ListN.{length, take, drop, get_or, length-drop, take-append-drop}
+use lib.Seq.{drop-drop, length-take-le}
+use Rattle.std.proofs.lemmas.List.{get_or-drop, get_or-take}
+use Rattle.std.specs.Simd.{first_chunks}
 use Rattle.crc.specs.Crc.{polynomial, bit_step, bit_steps, octet_step, register_over}
 use Rattle.fours.specs.Word.{word_at}
-use Rattle.crc.proofs.Laws.{register_turn}
 use Rattle.crc.proofs.Linear.{steps_xor, steps_shifted, steps_add}
 use Rattle.crc.proofs.Xor.{xor_assoc}
 
@@ -58,14 +60,31 @@ four_steps r a b c d ha hb hc =
     ∙ ap (λ (y : ℕ). octet_step y d) (more 16 (bit_xor r (a + b * 256)) c ∙ ap (bit_steps 24) (joined r (a + b * 256) 16 c (omega arith)))
     ∙ more 24 (bit_xor r (a + b * 256 + c * 65536)) d ∙ ap (bit_steps 32) (joined r (a + b * 256 + c * 65536) 24 d (omega arith))
 
-pub four : (s : List ℕ) → ((k : ℕ) → get_or s k 0 < 256) → (r i j : ℕ) → i + 4 ≤ length s → j ≡ i + 4
-    → register_over (bit_steps 32 (bit_xor r (word_at s i))) (drop j s) ≡ register_over r (drop i s)
-four s octets r i j h ej =
-    let x : ℕ → ℕ = λ k. get_or s k 0 in
-    let go : (r' j j' : ℕ) → j < length s → j + 1 ≡ j' → register_over r' (drop j s) ≡ register_over (octet_step r' (get_or s j 0)) (drop j' s)
-    = λ r' j j' hj e. register_turn r' s j hj ∙ ap (λ (k : ℕ). register_over (octet_step r' (get_or s j 0)) (drop k s)) e in
-    sym (go r i (i + 1) (omega arith) refl
-    ∙ go (octet_step r (x i)) (i + 1) (i + 2) (omega arith) (omega arith)
-    ∙ go (octet_step (octet_step r (x i)) (x (i + 1))) (i + 2) (i + 3) (omega arith) (omega arith)
-    ∙ go (octet_step (octet_step (octet_step r (x i)) (x (i + 1))) (x (i + 2))) (i + 3) j (omega arith) (omega arith)
-    ∙ ap (λ (y : ℕ). register_over y (drop j s)) (four_steps r (x i) (x (i + 1)) (x (i + 2)) (x (i + 3)) (octets i) (octets (i + 1)) (octets (i + 2))))
+-- a word of four octets put in at once
+word_whole : (r : ℕ) (w xs : List ℕ) → length w ≡ 4 → ((k : ℕ) → k < 4 → get_or w k 0 < 256)
+    → register_over (bit_steps 32 (bit_xor r (word_at w 0))) xs ≡ register_over r (w ++ xs)
+unfolding register_over
+word_whole r [] xs e h = cc
+word_whole r (a ∷ []) xs e h = cc
+word_whole r (a ∷ b ∷ []) xs e h = cc
+word_whole r (a ∷ b ∷ c ∷ []) xs e h = cc
+word_whole r (a ∷ b ∷ c ∷ d ∷ []) xs e h = ap (λ (y : ℕ). register_over y xs) (sym (four_steps r a b c d (h 0 (omega arith)) (h 1 (omega arith)) (h 2 (omega arith))))
+word_whole r (a ∷ b ∷ c ∷ d ∷ x ∷ w) xs e h = cc
+
+-- the i-th of the words that some octets are read in
+nth_word : (k i : ℕ) (s : List ℕ) → i < k → get_or (first_chunks 4 k s) i [] ≡ take 4 (drop (i * 4) s)
+nth_word zero i s h = absurd (omega arith)
+nth_word (suc k) zero s h = refl
+nth_word (suc k) (suc i) s h =
+    nth_word k i (drop 4 s) (omega arith) ∙ ap (take 4) (drop-drop (i * 4) 4 s ∙ ap (λ (j : ℕ). drop j s) (omega arith))
+
+-- a turn over it
+pub word_turn : (s : List ℕ) → ((k : ℕ) → get_or s k 0 < 256) → (r i : ℕ) → i < length s / 4
+    → register_over (bit_steps 32 (bit_xor r (word_at (get_or (first_chunks 4 (length s / 4) s) i []) 0))) (drop ((i + 1) * 4) s) ≡ register_over r (drop (i * 4) s)
+word_turn s octets r i h =
+    let w : List ℕ = take 4 (drop (i * 4) s) in
+    let long : length w ≡ 4 = length-take-le 4 (drop (i * 4) s) (let g : 4 ≤ length (drop (i * 4) s) = omega (arith, length-drop (i * 4) s) in g) in
+    ap (λ (v : List ℕ). register_over (bit_steps 32 (bit_xor r (word_at v 0))) (drop ((i + 1) * 4) s)) (nth_word (length s / 4) i s h)
+    ∙ word_whole r w (drop ((i + 1) * 4) s) long (λ k b. omega (arith, get_or-take 4 (drop (i * 4) s) k 0 b, get_or-drop (i * 4) s k 0, octets (i * 4 + k)))
+    ∙ ap (λ (v : List ℕ). register_over r (w ++ v)) (ap (λ (j : ℕ). drop j s) (omega arith) ∙ sym (drop-drop 4 (i * 4) s))
+    ∙ ap (register_over r) (take-append-drop 4 (drop (i * 4) s))

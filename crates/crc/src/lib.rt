@@ -1,7 +1,7 @@
 // The check octets of document 01: the CRC of IEEE 802.3 as FCS and as mCRC.
 #![tactic(auto)]
 
-ghost use Rattle.std.specs.Prelude.{◌≡◌, ◌≤◌, length, drop};
+ghost use Rattle.std.specs.Prelude.{◌≡◌};
 ghost use Rattle.fours.specs.Word.{octets_of};
 ghost use Rattle.crc.specs.Crc.{bit_step, bit_steps, register_over, fcs_of, mcrc_of};
 
@@ -15,6 +15,7 @@ const POLYNOMIAL: u32 = 0xEDB8_8320;
 const MCRC_INVERTS: u32 = 0xFFFF_0000;
 
 // One bit. clang makes a table of 256 words of a loop of such steps whose count is a constant multiple of eight.
+#[tactic(auto, using(crate::proofs::Word::step_even, crate::proofs::Word::step_odd))]
 fn bit(r: u32) -> u32
     ensures { result ≡ bit_step r }
 {
@@ -26,53 +27,51 @@ fn bit(r: u32) -> u32
 }
 
 // n bits.
+#[tactic(auto, using(crate::proofs::Turns::steps_loop))]
 fn steps(x: u32, n: u32) -> u32
     ensures { result ≡ bit_steps n x }
 {
     let mut r = x;
-    let mut k = 0;
-    while k < n {
+    for _ in 0..n {
         r = bit(r);
-        k += 1;
     }
     r
 }
 
-// The octets from a place on, one by one.
-fn rest(register: u32, octets: &[u8], from: usize) -> u32
-    requires { from ≤ length octets.now }
-    ensures { result ≡ register_over register (drop from octets.now) }
+// The register after octets, one a turn.
+#[tactic(auto, using(crate::proofs::Turns::octets_loop))]
+fn one_by_one(register: u32, octets: &[u8]) -> u32
+    ensures { result ≡ register_over register octets.now }
 {
     let mut r = register;
-    let mut i = from;
-    while i < octets.len() {
-        r = steps(r ^ (octets[i] as u32), 8);
-        i += 1;
+    for &octet in octets {
+        r = steps(r ^ u32::from(octet), 8);
     }
     r
 }
 
-// The register after more octets, four a turn. The count of turns is a u32, since a machine of 32 bits counts it in one register.
+// The register after more octets, four a turn.
+#[tactic(auto, using(crate::proofs::Word::word_turn))]
 pub fn over(register: u32, octets: &[u8]) -> u32
     ensures { result ≡ register_over register octets.now }
 {
-    let n = (octets.len() / 4 % 4294967296) as u32;
+    let (words, rest) = octets.as_chunks::<4>();
     let mut r = register;
-    let mut k = 0u32;
-    while k < n {
-        r = steps(r ^ fours::load(octets, (k as usize) * 4), 32);
-        k += 1;
+    for word in words {
+        r = steps(r ^ u32::from_le_bytes(*word), 32);
     }
-    rest(r, octets, (n as usize) * 4)
+    one_by_one(r, rest)
 }
 
 // The numbers whose four octets are the FCS and the mCRC of a register.
+#[tactic(auto, using(crate::proofs::Checks::fcs_octets))]
 pub fn fcs_word(register: u32) -> u32
     ensures { octets_of result ≡ fcs_of register }
 {
     ALL_ONES - register
 }
 
+#[tactic(auto, using(crate::proofs::Checks::mcrc_octets))]
 pub fn mcrc_word(register: u32) -> u32
     ensures { octets_of result ≡ mcrc_of register }
 {

@@ -8,7 +8,7 @@ ghost use Rattle.fours.specs.Word.{word_of, word_at, octets_of};
 pub fn joined(a: u8, b: u8, c: u8, d: u8) -> u32
     ensures { result ≡ word_of a b c d }
 {
-    a as u32 + b as u32 * 256 + c as u32 * 65536 + d as u32 * 16777216
+    u32::from_le_bytes([a, b, c, d])
 }
 
 // The four octets from place i on as one number, the first lowest.
@@ -20,13 +20,9 @@ pub fn load(octets: &[u8], i: usize) -> u32
 }
 
 // A number as four octets, the lowest first.
+#[tactic(auto, unfolding(crate::specs::Word::octets_of))]
 pub fn split(w: u32) -> [u8; 4]
     ensures { result ≡ octets_of w }
 {
-    [
-        (w % 256) as u8,
-        (w / 256 % 256) as u8,
-        (w / 65536 % 256) as u8,
-        (w / 16777216 % 256) as u8,
-    ]
+    w.to_le_bytes()
 }
