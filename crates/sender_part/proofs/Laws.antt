@@ -9,7 +9,6 @@ use Rattle.cut.specs.Cut.{minimum, part_of}
 use Rattle.cut.proofs.Laws.{cut_room}
 use Rattle.sender_record.specs.declared.Record.{Record}
 use Rattle.sender_part.specs.Parts.{part_now, Ends}
-use Rattle.sender_part.specs.declared.End.{End}
 
 -- the part that goes, by whether the port is active
 pub part_active : (r : Record) (n : ℕ) (ask : Option ℕ) → r.active ≡ true → part_now r n ask ≡ part_of (n + 4) r.sent (minimum r.extra) ask

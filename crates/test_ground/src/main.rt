@@ -3,7 +3,6 @@
 #![tactic(auto)]
 
 use codes::{FragmentCount, FrameCount};
-use cut::{Ask, Part};
 use delimiters::{Delimiter, Fragment};
 use endings::Ending;
 use std::process::ExitCode;
@@ -82,17 +81,17 @@ fn count(rt: HostRuntime, n: u8) -> Went {
 }
 
 // Where an mFrame is cut.
-fn say_part(rt: HostRuntime, p: Part) -> Went {
+fn say_part(rt: HostRuntime, cut: Option<usize>) -> Went {
     say::text(rt, b"cut");
-    match p {
-        Part::Whole => say::text(rt, b" whole"),
-        Part::Cut(n) => say::number(rt, n as u64),
+    match cut {
+        None => say::text(rt, b" whole"),
+        Some(n) => say::number(rt, n as u64),
     }
     say::line_end(rt)
 }
 
-fn ask_of(asked: u8, t: usize) -> Ask {
-    if asked == 0 { Ask::None } else { Ask::At(t) }
+fn ask_of(asked: u8, t: usize) -> Option<usize> {
+    if asked == 0 { None } else { Some(t) }
 }
 
 fn cut_asked(rt: HostRuntime, q: Question) -> Went {

@@ -3,8 +3,7 @@
 #![tactic(auto)]
 
 use codes::{FragmentCount, FrameCount};
-use cut::Ask;
-use sender_answers::Answer;
+use sender_answers::{Refusal, Written};
 use sender_record::Record;
 use std::process::ExitCode;
 use test_questions::read::Question;
@@ -24,13 +23,13 @@ fn after(kept: Kept, went: Went) -> Kept {
 }
 
 // The answer, and the FCS of all of the buffer.
-fn say_answer(rt: HostRuntime, answer: Answer, out: &[u8]) {
+fn say_answer(rt: HostRuntime, answer: Result<Written, Refusal>, out: &[u8]) {
     match answer {
-        Answer::Wrote { length, done } => {
+        Ok(Written { length, done }) => {
             say::number(rt, length as u64);
             say::flag(rt, done);
         }
-        Answer::Refused(refusal) => {
+        Err(refusal) => {
             say::text(rt, b" refused");
             say::number(rt, refusal.number() as u64);
         }
@@ -39,19 +38,17 @@ fn say_answer(rt: HostRuntime, answer: Answer, out: &[u8]) {
 }
 
 fn say_record(rt: HostRuntime, r: Record) {
-    let next = r.next;
-    let fragment = r.fragment;
     say::flag(rt, r.active);
     say::flag(rt, r.hold);
     say::small(rt, r.extra);
-    say::small(rt, next.0);
+    say::small(rt, r.next.0);
     say::number(rt, r.length as u64);
     say::number(rt, r.sent as u64);
-    say::small(rt, fragment.0);
+    say::small(rt, r.fragment.0);
 }
 
 // The answer of a call that keeps no record, behind the call's name.
-fn answered(rt: HostRuntime, name: &[u8], answer: Answer, out: &[u8]) -> Went {
+fn answered(rt: HostRuntime, name: &[u8], answer: Result<Written, Refusal>, out: &[u8]) -> Went {
     say::text(rt, name);
     say_answer(rt, answer, out);
     say::line_end(rt)
@@ -102,8 +99,8 @@ fn record(kept: Kept, q: Question) -> Kept {
             sent: q.long(13),
             fragment: FragmentCount(q.octet(21)),
         },
-        body: kept.body,
         went: Went::On,
+        ..kept
     }
 }
 
@@ -115,8 +112,8 @@ fn body(rt: HostRuntime, kept: Kept, q: Question, space: &mut [u8; 2048]) -> Kep
     Kept { body: n, ..kept }
 }
 
-fn ask_of(asked: u8, t: usize) -> Ask {
-    if asked == 0 { Ask::None } else { Ask::At(t) }
+fn ask_of(asked: u8, t: usize) -> Option<usize> {
+    if asked == 0 { None } else { Some(t) }
 }
 
 fn preemptable(rt: HostRuntime, kept: Kept, q: Question, body: &[u8; 2048]) -> Kept {
@@ -126,27 +123,29 @@ fn preemptable(rt: HostRuntime, kept: Kept, q: Question, body: &[u8; 2048]) -> K
     if out.len() < room {
         return after(kept, Went::Broken);
     }
-    let r = kept.record;
     let n = kept.body;
-    let sent = send::preemptable(r, read::front(body, n), ask_of(q.octet(1), q.long(2)), out);
-    let answer = sent.answer;
-    let record = sent.after;
+    let ask = ask_of(q.octet(1), q.long(2));
+    let sent = send::preemptable(kept.record, read::front(body, n), ask, out);
     say::text(rt, b"preemptable");
-    say_answer(rt, answer, out);
-    say_record(rt, record);
+    say_answer(rt, sent.answer, out);
+    say_record(rt, sent.after);
     Kept {
-        record,
+        record: sent.after,
         body: n,
         went: say::line_end(rt),
     }
 }
 
 fn settings(kept: Kept, q: Question) -> Kept {
-    let mut record = kept.record;
-    record.active = q.octet(1) != 0;
-    record.hold = q.octet(2) != 0;
-    record.extra = q.octet(3);
-    Kept { record, ..kept }
+    Kept {
+        record: Record {
+            active: q.octet(1) != 0,
+            hold: q.octet(2) != 0,
+            extra: q.octet(3),
+            ..kept.record
+        },
+        ..kept
+    }
 }
 
 // The octets that the numbers of each kind of question take.
