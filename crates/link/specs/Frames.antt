@@ -71,7 +71,7 @@ frames_sent begun (order octets fate ∷ ms) = frames_sent begun ms
 
 unfoldable pub none_lost : List Fate → Bool
 none_lost [] = true
-none_lost (arrives dropped ∷ l) = None_lost l
+none_lost (arrives dropped ∷ l) = none_lost l
 none_lost (lost ∷ l) = false
 
 -- one, or none
