@@ -4,20 +4,6 @@
 ghost use Rattle.std.specs.Prelude.{◌≡◌};
 ghost use Rattle.cut.specs.Cut.{part_of, minimum};
 
-// What the caller asks: nothing, or to make way when this many of the mFrame's data octets are on the wire.
-#[derive(Clone, Copy)]
-pub enum Ask {
-    None,
-    At(usize),
-}
-
-// What goes now: all that is left of the frame, or so many of its octets.
-#[derive(Clone, Copy)]
-pub enum Part {
-    Whole,
-    Cut(usize),
-}
-
 // Of the frame, its FCS counted, this many octets at least are left behind a cut.
 const LEFT: usize = 64;
 
@@ -25,34 +11,19 @@ const LEFT: usize = 64;
 fn least(extra: u8) -> usize
     ensures { result ≡ minimum extra }
 {
-    64 * (1 + extra as usize) - 4
+    64 * (1 + usize::from(extra)) - 4
 }
 
-// The part that goes now of a frame of so many octets, its FCS counted, of which some are sent. A lawful cut needs both the ask and the
-// least number, so the greater of the two is the only candidate: it is lawful, or none is.
-pub fn next_part(frame: usize, sent: usize, extra: u8, ask: Ask) -> Part
+// After how many octets a frame of so many, its FCS counted, of which some are sent, is cut now; none where all that is left goes. The ask is
+// how many of the mFrame's data octets are on the wire when it has to make way, or none. A lawful cut needs both the ask and the least number,
+// so the greater of the two is the only candidate: it is lawful, or none is.
+#[tactic(auto, using(crate::proofs::Laws::cut_at, crate::proofs::Laws::cut_none, crate::proofs::Laws::unasked))]
+pub fn next_part(frame: usize, sent: usize, extra: u8, ask: Option<usize>) -> Option<usize>
     ensures { result ≡ part_of frame sent (minimum extra) ask }
 {
-    let Ask::At(asked) = ask else {
-        return Part::Whole;
-    };
-    if frame < sent {
-        return Part::Whole;
-    }
-    let left = frame - sent;
-    if left < LEFT {
-        return Part::Whole;
-    }
-    let room = left - LEFT;
+    let asked = ask?;
+    let room = frame.checked_sub(sent)?.checked_sub(LEFT)?;
     let m = least(extra);
-    if room < m {
-        return Part::Whole;
-    }
-    if room < asked {
-        return Part::Whole;
-    }
-    if asked < m {
-        return Part::Cut(m);
-    }
-    Part::Cut(asked)
+    let n = m.max(asked);
+    if n <= room { Some(n) } else { None }
 }

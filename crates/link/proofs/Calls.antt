@@ -2,18 +2,15 @@
 use mathlib.Core.Path.{◌≡◌, refl}
 use mathlib.Core.Bool.{Bool, true, false, cond, ◌||◌, false≢true}
 use mathlib.Core.List.{List, [], ◌∷◌, ◌++◌}
-use mathlib.Core.Option.{Option, none, some}
 use Prim.Native.Nat.{ℕ, ◌+◌, ◌≤◌}
 use native.Mathlib.Omega.{arith}
 use borrow.Author.Tests.{ltb-false}
 use lib.Dec.{ltb}
 use lib.ListN.{length, take, drop}
 use lib.Seq.{take_at}
+use Rattle.std.specs.Prelude.{Option, Some, None}
 use Rattle.octets.specs.Laid.{over}
 use Rattle.crc.specs.Crc.{all_ones, register_over, fcs_of, mcrc_of}
-use Rattle.cut.specs.declared.Ask.{Ask}
-use Rattle.cut.specs.declared.Part.{Part}
-use Rattle.cut.specs.declared.Part.TheVariants as P
 use Rattle.mframe.specs.Octets.{mframe_of}
 use Rattle.sender_answers.specs.Answers.{Outcome, refuse, write, short}
 use Rattle.single.specs.Single.{express_of, zeros, order_of}
@@ -53,20 +50,20 @@ module _ (body out : List ℕ) (fate : Fate) (calls : List Call) (rest : FlowFro
       rw (front (mframe r body to done) out)
       (up_to r body to, (emits i body g.0 to low fits most done at_end, rest _ _ _ (means_after i body g.0 to low least done) g.1))
 
-  goes : (ask : Ask) → Passed r (length body) (length out) → (q : Part) → part_now r (length body) ask ≡ q
+  goes : (ask : Option ℕ) → Passed r (length body) (length out) → (q : Option ℕ) → part_now r (length body) ask ≡ q
       → Goes (go r body (end_of r.sent (length body) q) (is_done q))
-  goes ask ok P.Whole e = part_goes (length body) true ok.left (omega arith) ok.least ok.most (λ _. refl)
-  goes ask ok (P.Cut k) e =
+  goes ask ok None e = part_goes (length body) true ok.left (omega arith) ok.least ok.most (λ _. refl)
+  goes ask ok (Some k) e =
       let w = cut_within r (length body) ask k e in
       part_goes (r.sent + k) false w.part (omega (arith, w.left)) ok.least ok.most (λ z. absurd (false≢true z))
 
-  preemptable_goes : (ask : Ask) → Goes (preemptable_of r body ask (length out))
+  preemptable_goes : (ask : Option ℕ) → Goes (preemptable_of r body ask (length out))
   unfolding sent_of
   preemptable_goes ask = by (refusal_of r (length body) (length out)) refl
     where
       by : (o : Option ℕ) → refusal_of r (length body) (length out) ≡ o → Goes (unless o r (sent_of r body ask))
-      by none e = goes ask (passed r (length body) (length out) e) (part_now r (length body) ask) refl
-      by (some k) e = rest r p s i
+      by None e = goes ask (passed r (length body) (length out) e) (part_now r (length body) ask) refl
+      by (Some k) e = rest r p s i
 
 -- an express call
 module _ (body out : List ℕ) (fate : Fate) (ms : List MFrame) (p : Option (List ℕ)) (s : Sender) (rest : Flows p s ms) where

@@ -2,13 +2,13 @@
 use mathlib.Core.Path.{◌≡◌, refl, sym, ap, ap₂, ◌∙◌}
 use mathlib.Core.Bool.{Bool, true, false}
 use mathlib.Core.List.{List, ◌++◌}
-use mathlib.Core.Option.{Option, none, some}
 use Prim.Native.Nat.{ℕ, ◌+◌, ◌-◌, ◌%◌, ◌≤◌, ◌<◌}
 use native.Mathlib.Omega.{arith}
 use borrow.Author.Tests.{ne_eqb}
 use lib.Dec.{eqb}
 use lib.ListN.{length, take, drop, length-drop}
 use lib.Seq.{take-add, take-length, length-take-le}
+use Rattle.std.specs.Prelude.{Option, Some, None}
 use Rattle.crc.specs.Crc.{all_ones, register_over}
 use Rattle.codes.specs.Codes.{frame, fragment}
 use Rattle.mframe.specs.Octets.{mframe_of}
@@ -25,9 +25,9 @@ use Rattle.link.proofs.Flow.{Sender, idle, busy, sofar, kind_from, onward, Emits
 -- what a record stands for, with the body of the frame in progress
 pub data Means : Record → Option (List ℕ) → Sender → Type 0 where
   m_idle : {h : Bool} {x k : ℕ} → k < 4
-      → Means (record { active = true; hold = h; extra = x; next = frame k; length = 0; sent = 0; fragment = fragment 0 }) none (idle k)
+      → Means (record { active = true; hold = h; extra = x; next = frame k; length = 0; sent = 0; fragment = fragment 0 }) None (idle k)
   m_busy : {h : Bool} {x k j s : ℕ} {p : List ℕ} → k < 4 → j < 4 → 1 ≤ length p
-      → Means (record { active = true; hold = h; extra = x; next = frame ((k + 1) % 4); length = length p; sent = s; fragment = fragment j }) (some p) (busy k j (take s p))
+      → Means (record { active = true; hold = h; extra = x; next = frame ((k + 1) % 4); length = length p; sent = s; fragment = fragment j }) (Some p) (busy k j (take s p))
 
 pub means_setting : {r : Record} {p : Option (List ℕ)} {s : Sender} → Means r p s → (h : Bool) (x : ℕ) → Means (setting h x r) p s
 means_setting (m_idle a) h x = m_idle a

@@ -3,8 +3,7 @@
 -- The contracts that tie these definitions to functions: `fresh_of` to sender_record's Record::fresh, `preemptable_of` to send's preemptable;
 -- `express_of` to single's express, `order_of` to its verify and respond; `head_of` to heads' head_of; `fresh` to receiver_record's Record::fresh,
 -- `received_of` and `buffer_of` to receive's receive, `body_of` to express_body's express_body. A sending call leaves `over` what it wrote in its buffer.
-use Rattle.std.specs.Prelude.{◌≡◌, true, List, ◌∷◌, ℕ, ◌≤◌, length}
-use Rattle.std.proofs.Math.Option.{none}
+use Rattle.std.specs.Prelude.{◌≡◌, true, List, ◌∷◌, ℕ, ◌≤◌, length, None}
 use Rattle.receiver_record.specs.declared.Record.{Record}
 use Rattle.receiver_record.specs.Records.{fresh}
 use Rattle.receive_histories.specs.History.{record_after, buffer_after}
@@ -30,7 +29,7 @@ pub record Demand3 : Type 0 where
   -- preemptable ones in a row, those of other kinds not counted. Then the frames delivered are exactly those sent to their end that lost no
   -- mFrame, each lane in its sending order." (Active throughout: `sent` begins with an active record, and no call sets that field.) "Demand 3 also
   -- holds when the link drops any number of leading 55s": of each mFrame that arrives any number, chosen with its fate.
-  pub delivers : (calls : List Call) (buffer : List ℕ) → 1518 ≤ length buffer → SameToEnd none (sent calls) → NeverFour (fates (sent calls))
+  pub delivers : (calls : List Call) (buffer : List ℕ) → 1518 ≤ length buffer → SameToEnd None (sent calls) → NeverFour (fates (sent calls))
       → Delivers (sent calls) (receiving fresh buffer (arrivals (sent calls)))
   -- "And after any octets at all, from the next unrefused start of a preemptable frame on, a receiver delivers what a fresh one with as long a
   -- buffer would."

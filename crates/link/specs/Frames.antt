@@ -1,16 +1,15 @@
 -- What demand 3 asks of the mFrames sent, which of them arrive, and the frames that it expects, clause by clause. Assumes nothing.
-use Rattle.std.specs.Prelude.{◌≡◌, Bool, true, false, cond, ◌&&◌, List, [], ◌∷◌, ◌++◌, ℕ, ◌-◌, eqb, ltb}
-use Rattle.std.proofs.Math.Option.{Option, none, some}
+use Rattle.std.specs.Prelude.{◌≡◌, Bool, true, false, cond, ◌&&◌, List, [], ◌∷◌, ◌++◌, ℕ, ◌-◌, eqb, ltb, Option, Some, None}
 use Rattle.link.specs.Sender.{Fate, arrives, lost, MFrame, express, part, order}
 
 -- "each frame's octets the same until its end": a part's body is that of the frame in progress, if there is one; begun has that
 abbrev pub Same : Option (List ℕ) → List ℕ → Type 0
-Same none body = Unit {0}
-Same (some begun) body = body ≡ begun
+Same None body = Unit {0}
+Same (Some begun) body = body ≡ begun
 
 abbrev pub progress : Bool → List ℕ → Option (List ℕ)
-progress true body = none
-progress false body = some body
+progress true body = None
+progress false body = Some body
 
 abbrev pub SameToEnd : Option (List ℕ) → List MFrame → Type 0
 SameToEnd begun [] = Unit {0}

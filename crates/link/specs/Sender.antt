@@ -1,7 +1,6 @@
 -- The sending end of a link (demand 3): a caller's calls, and the mFrames that they send, each with its fate. Assumes nothing.
-use Rattle.std.specs.Prelude.{Bool, true, false, List, [], ◌∷◌, ◌++◌, ℕ, length, take}
+use Rattle.std.specs.Prelude.{Bool, true, false, List, [], ◌∷◌, ◌++◌, ℕ, length, take, Option}
 use Rattle.octets.specs.Laid.{over}
-use Rattle.cut.specs.declared.Ask.{Ask}
 use Rattle.sender_answers.specs.Answers.{Said, wrote, refused}
 use Rattle.single.specs.Single.{express_of, order_of}
 use Rattle.mframe.specs.declared.Kind.TheVariants.{Verify, Respond}
@@ -18,7 +17,7 @@ pub data Fate : Type 0 where
 -- ask; and the fate of the mFrame, should it send one
 pub data Call : Type 0 where
   express_call : (body out : List ℕ) → Fate → Call
-  preemptable_call : (hold : Bool) (extra : ℕ) (body : List ℕ) (ask : Ask) (out : List ℕ) → Fate → Call
+  preemptable_call : (hold : Bool) (extra : ℕ) (body : List ℕ) (ask : Option ℕ) (out : List ℕ) → Fate → Call
   verify_call : (out : List ℕ) → Fate → Call
   respond_call : (out : List ℕ) → Fate → Call
 

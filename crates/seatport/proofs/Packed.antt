@@ -2,9 +2,9 @@
 use mathlib.Core.Path.{◌≡◌, refl}
 use mathlib.Core.Bool.{Bool, true, false, cond}
 use mathlib.Core.List.{List, [], ◌∷◌}
-use mathlib.Core.Option.{Option, none, some}
 use Prim.Native.Nat.{ℕ}
 use lib.ListN.{length}
+use Rattle.std.specs.Prelude.{Option, Some, None}
 use Rattle.sender_record.specs.Refusals.{refusal_of}
 use Rattle.send.specs.Preemptable.{sent_of, unless}
 use Rattle.sender_words.specs.Sender.{sender_fits, sender_of}
@@ -23,6 +23,6 @@ sender_handed_back a h e n l s f body ask room =
         → let v = a ∷ h ∷ e ∷ n ∷ l ∷ s ∷ f ∷ [] in
         let p = cond b (told (unless o (sender_of v) (sent_of (sender_of v) body (ask_of ask)))) (unfit v room) in
         (p.number ≡ 0 → ⊥) → p.sender ≡ v
-    by true q none z = absurd (z refl)
-    by true q (some k) z = sender_written a h e n l s f q
+    by true q None z = absurd (z refl)
+    by true q (Some k) z = sender_written a h e n l s f q
     by false q o z = refl

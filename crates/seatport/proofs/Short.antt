@@ -3,17 +3,14 @@
 use mathlib.Core.Path.{◌≡◌, refl}
 use mathlib.Core.Bool.{Bool, true, false, cond}
 use mathlib.Core.List.{List}
-use mathlib.Core.Option.{Option, none, some}
 use Prim.Native.Nat.{ℕ, ◌+◌, ◌-◌, ◌≤◌, ◌<◌, ◌^◌}
 use native.Mathlib.Omega.{arith}
 use borrow.Author.Tests.{ltb-false}
 use lib.Dec.{ltb}
 use lib.ListN.{length, take, drop, length-take, length-drop}
+use Rattle.std.specs.Prelude.{Option, Some, None}
 use Rattle.crc.specs.Crc.{all_ones, register_over, fcs_of, mcrc_of}
 use Rattle.crc.proofs.Laws.{fcs_length, mcrc_length}
-use Rattle.cut.specs.declared.Ask.{Ask}
-use Rattle.cut.specs.declared.Part.{Part}
-use Rattle.cut.specs.declared.Part.TheVariants.{Whole, Cut}
 use Rattle.mframe.specs.Octets.{mframe_of}
 use Rattle.sender_answers.specs.Answers.{refuse, write, short, outside}
 use Rattle.single.specs.Single.{express_of, zeros, order_of}
@@ -62,13 +59,13 @@ part_short r body to done most =
       check_length register done,
     )
 
-pub sent_short : (r : Record) (body : List ℕ) (ask : Ask) (room : ℕ) → Short (preemptable_of r body ask room).said
+pub sent_short : (r : Record) (body : List ℕ) (ask : Option ℕ) (room : ℕ) → Short (preemptable_of r body ask room).said
 unfolding sent_of
 sent_short r body ask room = by (refusal_of r (length body) room) refl
   where
     by : (o : Option ℕ) → refusal_of r (length body) room ≡ o → Short (unless o r (sent_of r body ask)).said
-    by (some k) q = tt
-    by none q =
+    by (Some k) q = tt
+    by None q =
         let p = part_now r (length body) ask in
         part_short r body (end_of r.sent (length body) p) (is_done p) (passed r (length body) room q).most
 
@@ -77,16 +74,16 @@ pub record Fits (r : Record) : Type 0 where
   pub length : r.length < 2 ^ 32
   pub sent : r.sent < 2 ^ 32
 
-after_part : (r : Record) (n : ℕ) (p : Part) → n ≤ 1518 → ((k : ℕ) → p ≡ Cut k → r.sent + k + 60 ≤ n)
+after_part : (r : Record) (n : ℕ) (p : Option ℕ) → n ≤ 1518 → ((k : ℕ) → p ≡ Some k → r.sent + k + 60 ≤ n)
     → Fits (record_after r n (end_of r.sent n p) (is_done p))
-after_part r n Whole most within = record { length = omega arith; sent = omega arith }
-after_part r n (Cut k) most within = record { length = omega (arith, most); sent = omega (arith, most, within k refl) }
+after_part r n None most within = record { length = omega arith; sent = omega arith }
+after_part r n (Some k) most within = record { length = omega (arith, most); sent = omega (arith, most, within k refl) }
 
-pub after_short : (r : Record) (body : List ℕ) (ask : Ask) (room : ℕ) → Fits r → Fits (preemptable_of r body ask room).after
+pub after_short : (r : Record) (body : List ℕ) (ask : Option ℕ) (room : ℕ) → Fits r → Fits (preemptable_of r body ask room).after
 unfolding sent_of
 after_short r body ask room fits = by (refusal_of r (length body) room) refl
   where
     by : (o : Option ℕ) → refusal_of r (length body) room ≡ o → Fits (unless o r (sent_of r body ask)).after
-    by (some k) q = fits
-    by none q =
+    by (Some k) q = fits
+    by None q =
         after_part r (length body) (part_now r (length body) ask) (passed r (length body) room q).most (λ k e. (cut_within r (length body) ask k e).left)

@@ -1,12 +1,10 @@
 -- The preemptable call (document 01, "Sending"): what it answers, the record after it, and what it writes. Assumes nothing.
-use Rattle.std.specs.Prelude.{◌≡◌, Bool, true, false, cond, List, [], ℕ, ◌-◌, eqb, length, take, drop}
-use Rattle.std.proofs.Math.Option.{Option, none, some}
+use Rattle.std.specs.Prelude.{◌≡◌, Bool, true, false, cond, List, [], ℕ, ◌-◌, eqb, length, take, drop, Option, Some, None}
 use Rattle.octets.specs.Laid.{over}
 use Rattle.crc.specs.Crc.{all_ones, register_over, fcs_of, mcrc_of}
 use Rattle.codes.specs.Codes.{fragment, next_frame, next_fragment}
 use Rattle.codes.specs.declared.FrameCount.{FrameCount}
 use Rattle.codes.specs.declared.FragmentCount.{FragmentCount}
-use Rattle.cut.specs.declared.Ask.{Ask}
 use Rattle.mframe.specs.Octets.{mframe_of}
 use Rattle.sender_answers.specs.Answers.{Said, wrote, refused, said}
 use Rattle.sender_record.specs.Refusals.{refusal_of}
@@ -54,14 +52,14 @@ go r body to done =
     record { said = wrote (length (mframe r body to done)) done; after = record_after r (length body) to done; octets = mframe r body to done }
 
 -- a part that no test refused
-unfoldable pub sent_of : Record → List ℕ → Ask → Step
+unfoldable pub sent_of : Record → List ℕ → Option ℕ → Step
 sent_of r body ask = go r body (end_of r.sent (length body) (part_now r (length body) ask)) (is_done (part_now r (length body) ask))
 
 abbrev pub unless : Option ℕ → Record → Step → Step
-unless none r step = step
-unless (some k) r step = stay k r
+unless None r step = step
+unless (Some k) r step = stay k r
 
-abbrev pub preemptable_of : Record → List ℕ → Ask → ℕ → Step
+abbrev pub preemptable_of : Record → List ℕ → Option ℕ → ℕ → Step
 preemptable_of r body ask room = unless (refusal_of r (length body) room) r (sent_of r body ask)
 
 -- the promise of a preemptable call: its answer, the record afterwards, and every octet of the buffer, which was out and is out'

@@ -4,19 +4,17 @@ use mathlib.Core.Path.{◌≡◌, refl, ap, ap₂, ◌∙◌}
 use mathlib.Core.Bool.{Bool, true, false, cond}
 use mathlib.Core.List.{List, [], ◌∷◌, ◌++◌, append_assoc, map}
 use mathlib.Core.Logic.{⊎_elim}
-use mathlib.Core.Option.{Option, none, some}
 use Prim.Native.Nat.{ℕ, ◌+◌, ◌-◌, ◌%◌, ◌≤◌, ◌<◌}
 use native.Mathlib.Omega.{arith}
 use borrow.Author.Tests.{eq-eqb, ne_eqb}
 use lib.Dec.{eqb}
 use lib.ListN.{length, take, drop, length-append, length-drop}
 use lib.Seq.{length-take-le}
+use Rattle.std.specs.Prelude.{Option, Some, None}
 use Rattle.crc.specs.Crc.{all_ones, register_over}
 use Rattle.codes.specs.Codes.{frame, fragment, next_frame, last_frame, next_fragment}
 use Rattle.codes.specs.declared.FrameCount.{FrameCount}
 use Rattle.codes.specs.declared.FragmentCount.{FragmentCount}
-use Rattle.cut.specs.declared.Part.{Part}
-use Rattle.cut.specs.declared.Part.TheVariants.{Whole, Cut}
 use Rattle.mframe.specs.Octets.{header_of}
 use Rattle.heads.specs.Head.{Reading, known, head_of}
 use Rattle.mframe.specs.declared.Kind.{Kind}
@@ -113,11 +111,11 @@ module _ (body : List ℕ) where
     not_none e = omega (arith, ok.least)
 
     part-goes-on : (r.length ≡ 0 → ⊥) → ((x : Record) → (x.length ≡ 0 → ⊥) → GoesOn x (written body x cs))
-        → (p : Part) → part_now q (length body) c.ask ≡ p → GoesOn r (from body (go q body (end_of r.sent (length body) p) (is_done p)) cs)
+        → (p : Option ℕ) → part_now q (length body) c.ask ≡ p → GoesOn r (from body (go q body (end_of r.sent (length body) p) (is_done p)) cs)
     unfolding continuations
-    part-goes-on z ih Whole e =
+    part-goes-on z ih None e =
         ap (λ (x : Reading). x ∷ []) (headed q body (length body) true ok.range ok.left (omega arith) ok.most ∙ ap told (going_kind q z))
-    part-goes-on z ih (Cut k) e =
+    part-goes-on z ih (Some k) e =
         let w = cut_within q (length body) c.ask k e in
         let to : ℕ = r.sent + k in
         ap₂ (λ (x : Reading) (l : List Reading). x ∷ l)
@@ -126,11 +124,11 @@ module _ (body : List ℕ) where
         ∙ ap₂ (λ (n : FrameCount) (f : FragmentCount). map told (continuations (last_frame n) f (length (written body (cut_at to) cs).mframes))) (going_frame q z) (going_fragment q z))
 
     part-begins : r.length ≡ 0 → c.active ≡ true → ((x : Record) → (x.length ≡ 0 → ⊥) → GoesOn x (written body x cs))
-        → (p : Part) → part_now q (length body) c.ask ≡ p → Begins r (from body (go q body (end_of r.sent (length body) p) (is_done p)) cs)
+        → (p : Option ℕ) → part_now q (length body) c.ask ≡ p → Begins r (from body (go q body (end_of r.sent (length body) p) (is_done p)) cs)
     unfolding continuations
-    part-begins z a on Whole e =
+    part-begins z a on None e =
         ap (λ (x : Reading). x ∷ []) (headed q body (length body) true ok.range ok.left (omega arith) ok.most ∙ ap told (first_kind q z a))
-    part-begins z a on (Cut k) e =
+    part-begins z a on (Some k) e =
         let w = cut_within q (length body) c.ask k e in
         let to : ℕ = r.sent + k in
         ap₂ (λ (x : Reading) (l : List Reading). x ∷ l)
@@ -143,15 +141,15 @@ module _ (body : List ℕ) where
     call-goes-on : (r.length ≡ 0 → ⊥) → ((x : Record) → (x.length ≡ 0 → ⊥) → GoesOn x (written body x cs))
         → (o : Option ℕ) → refusal_of (setting c r) (length body) c.room ≡ o → GoesOn r (from body (unless o (setting c r) (sent_of (setting c r) body c.ask)) cs)
     unfolding sent_of
-    call-goes-on z ih (some k) e = ih (setting c r) z
-    call-goes-on z ih none e =
+    call-goes-on z ih (Some k) e = ih (setting c r) z
+    call-goes-on z ih None e =
         part-goes-on c cs r (passed (setting c r) (length body) c.room e) z ih (part_now (setting c r) (length body) c.ask) refl
 
     call-begins : r.length ≡ 0 → c.active ≡ true → ((x : Record) → (x.length ≡ 0 → ⊥) → GoesOn x (written body x cs)) → Begins (setting c r) (written body (setting c r) cs)
         → (o : Option ℕ) → refusal_of (setting c r) (length body) c.room ≡ o → Begins r (from body (unless o (setting c r) (sent_of (setting c r) body c.ask)) cs)
     unfolding sent_of
-    call-begins z a on ih (some k) e = ih
-    call-begins z a on ih none e =
+    call-begins z a on ih (Some k) e = ih
+    call-begins z a on ih None e =
         part-begins c cs r (passed (setting c r) (length body) c.room e) z a on (part_now (setting c r) (length body) c.ask) refl
 
   -- a frame in progress goes on with C, up by one modulo 4, whether the port is active or not

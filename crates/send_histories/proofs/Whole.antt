@@ -3,17 +3,15 @@
 use mathlib.Core.Path.{◌≡◌, refl, sym, ap, ap₂, ◌∙◌}
 use mathlib.Core.Bool.{Bool, true, false, false≢true}
 use mathlib.Core.List.{List, [], ◌∷◌, ◌++◌, append_assoc, append-nil}
-use mathlib.Core.Option.{Option, none, some}
 use Prim.Native.Nat.{ℕ, ◌+◌, ◌-◌, ◌≤◌}
 use native.Mathlib.Omega.{arith}
 use lib.ListN.{length, take, drop, length-drop, take-append-drop}
 use lib.Seq.{take_at, drop_at, take_all, drop-drop}
+use Rattle.std.specs.Prelude.{Option, Some, None}
 use Rattle.crc.specs.Crc.{all_ones, register_over}
 use Rattle.mframe.specs.Octets.{header_of, mframe_of}
 use Rattle.mframe.specs.declared.Kind.{Kind}
 use Rattle.mframe.proofs.Laws.{header_length, mframe_length}
-use Rattle.cut.specs.declared.Part.{Part}
-use Rattle.cut.specs.declared.Part.TheVariants.{Whole, Cut}
 use Rattle.sender_record.specs.Refusals.{refusal_of}
 use Rattle.sender_record.specs.declared.Record.{Record}
 use Rattle.sender_part.specs.Parts.{part_now, end_of, is_done, kind_of}
@@ -42,12 +40,12 @@ module _ (body : List ℕ) where
   module _ (c : Call) (cs : List Call) (r : Record) where
     -- a call's part, whole or cut, and the data that follow it
     part_left : ((q : Record) → (written body q cs).ended ≡ true → joined (written body q cs).mframes ≡ drop q.sent body)
-        → (p : Part) → (let w = from (go (setting c r) body (end_of r.sent (length body) p) (is_done p)) cs in w.ended ≡ true → joined w.mframes ≡ drop r.sent body)
+        → (p : Option ℕ) → (let w = from (go (setting c r) body (end_of r.sent (length body) p) (is_done p)) cs in w.ended ≡ true → joined w.mframes ≡ drop r.sent body)
     unfolding joined
-    part_left ih Whole e =
+    part_left ih None e =
         append-nil (data_in (mframe (setting c r) body (length body) true)) ∙ part_data (setting c r) body (length body) true
         ∙ take_all (length body - r.sent) (drop r.sent body) (let g : length (drop r.sent body) ≤ length body - r.sent = omega (arith, length-drop r.sent body) in g)
-    part_left ih (Cut k) e =
+    part_left ih (Some k) e =
         let n : r.sent + k - r.sent ≡ k = omega arith in
         ap₂ (λ (x y : List ℕ). x ++ y)
         (part_data (setting c r) body (r.sent + k) false ∙ ap (λ (j : ℕ). take j (drop r.sent body)) n)
@@ -57,8 +55,8 @@ module _ (body : List ℕ) where
     call-left : ((q : Record) → (written body q cs).ended ≡ true → joined (written body q cs).mframes ≡ drop q.sent body)
         → (o : Option ℕ) → (let w = from (unless o (setting c r) (sent_of (setting c r) body c.ask)) cs in w.ended ≡ true → joined w.mframes ≡ drop r.sent body)
     unfolding sent_of
-    call-left ih (some k) e = ih (setting c r) e
-    call-left ih none e = part_left ih (part_now (setting c r) (length body) c.ask) e
+    call-left ih (Some k) e = ih (setting c r) e
+    call-left ih None e = part_left ih (part_now (setting c r) (length body) c.ask) e
 
   -- from a record on, the data are what is left of the body
   joined_left : (cs : List Call) (r : Record) → (written body r cs).ended ≡ true → joined (written body r cs).mframes ≡ drop r.sent body

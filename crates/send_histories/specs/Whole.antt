@@ -1,9 +1,8 @@
 -- A frame sent by a sequence of calls over one body: what the calls write, one after the other. Assumes nothing.
-use Rattle.std.specs.Prelude.{◌≡◌, Bool, true, false, List, [], ◌∷◌, ◌++◌, ℕ, zero, suc, ◌-◌, length, take, drop}
+use Rattle.std.specs.Prelude.{◌≡◌, Bool, true, false, List, [], ◌∷◌, ◌++◌, ℕ, zero, suc, ◌-◌, length, take, drop, Option}
 use Rattle.codes.specs.Codes.{fragment, next_fragment}
 use Rattle.codes.specs.declared.FrameCount.{FrameCount}
 use Rattle.codes.specs.declared.FragmentCount.{FragmentCount}
-use Rattle.cut.specs.declared.Ask.{Ask}
 use Rattle.sender_answers.specs.Answers.{Said, wrote, refused}
 use Rattle.mframe.specs.declared.Kind.{Kind}
 use Rattle.mframe.specs.declared.Kind.TheVariants.{Start, Continuation}
@@ -15,7 +14,7 @@ pub record Call : Type 0 where
   pub active : Bool
   pub hold : Bool
   pub extra : ℕ
-  pub ask : Ask
+  pub ask : Option ℕ
   pub room : ℕ
 
 -- the record with a call's settings

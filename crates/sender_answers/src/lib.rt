@@ -28,9 +28,9 @@ impl Refusal {
     }
 }
 
-// What a sending call answers.
+// What a sending call wrote: an mFrame of so many octets, and whether its frame is done.
 #[derive(Clone, Copy)]
-pub enum Answer {
-    Wrote { length: usize, done: bool },
-    Refused(Refusal),
+pub struct Written {
+    pub length: usize,
+    pub done: bool,
 }

@@ -2,14 +2,14 @@
 -- Assumes nothing.
 use mathlib.Core.Path.{◌≡◌, sym, ◌∙◌}
 use Prim.Native.Nat.{ℕ}
-use Rattle.cut.specs.declared.Part.{Part}
+use Rattle.std.specs.Prelude.{Option}
 use Rattle.mframe.specs.declared.Kind.{Kind}
 use Rattle.sender_record.specs.declared.Record.{Record}
 use Rattle.sender_part.specs.Parts.{Ends, kind_of}
 use Rattle.sender_part.specs.declared.End.{End}
 
 -- stretch
-pub stretch_once : (r : Record) (n : ℕ) (p : Part) {e f : End} → Ends r n p e → Ends r n p f → e ≡ f
+pub stretch_once : (r : Record) (n : ℕ) (p : Option ℕ) {e f : End} → Ends r n p e → Ends r n p f → e ≡ f
 stretch_once r n p {e} {f} h k =
     let a : e.to ≡ f.to = h.end ∙ sym k.end in
     let b : e.done ≡ f.done = h.done ∙ sym k.done in

@@ -4,7 +4,6 @@
 ghost use Rattle.std.specs.Prelude.{◌≡◌, ◌+◌, ◌≤◌};
 ghost use Rattle.sender_part.specs.Parts.{part_now, Ends, kind_of};
 
-use cut::{Ask, Part};
 use mframe::{CHECK, Kind};
 use sender_record::Record;
 
@@ -16,36 +15,34 @@ pub struct End {
 }
 
 // The part that goes now of a body of n octets.
-pub fn stretch(r: Record, n: usize, ask: Ask) -> End
+#[tactic(auto, using(cut::proofs::Laws::cut_room, crate::proofs::Laws::part_active, crate::proofs::Laws::part_inactive, crate::proofs::Laws::ends_cut))]
+pub fn stretch(r: Record, n: usize, ask: Option<usize>) -> End
     requires { (r.sent + 60 ≤ n) × (n ≤ 1518) }
     ensures { Ends r n (part_now r n ask) result }
 {
-    let sent = r.sent;
-    let extra = r.extra;
-    if r.active {
-        if let Part::Cut(k) = cut::next_part(n + CHECK, sent, extra, ask) {
-            return End {
-                to: sent + k,
-                done: false,
-            };
-        }
-        return End { to: n, done: true };
+    let whole = End { to: n, done: true };
+    if !r.active {
+        return whole;
     }
-    End { to: n, done: true }
+    match cut::next_part(n + CHECK, r.sent, r.extra, ask) {
+        Some(k) => End {
+            to: r.sent + k,
+            done: false,
+        },
+        None => whole,
+    }
 }
 
 // S, or E where the port is not active, for a frame not yet begun; else the continuation, which carries the count before the next one.
+#[tactic(auto, unfolding(crate::specs::Parts::kind_of))]
 pub fn kind(r: Record) -> Kind
     ensures { result ≡ kind_of r }
 {
-    let next = r.next;
-    let last = next.last();
-    let fragment = r.fragment;
-    if r.length == 0 {
-        if r.active {
-            return Kind::Start(next);
-        }
-        return Kind::Express;
+    if r.length != 0 {
+        return Kind::Continuation(r.next.last(), r.fragment);
     }
-    Kind::Continuation(last, fragment)
+    if r.active {
+        return Kind::Start(r.next);
+    }
+    Kind::Express
 }

@@ -3,11 +3,11 @@
 use mathlib.Core.Path.{◌≡◌, refl, sym}
 use mathlib.Core.Logic.{◌⊎◌, inl, inr, ⊎_elim}
 use mathlib.Core.Bool.{Bool, true, false, not, ◌&&◌, ◌||◌, false≢true}
-use mathlib.Core.Option.{none}
 use Prim.Native.Nat.{ℕ, ◌+◌, ◌≤◌}
 use native.Mathlib.Omega.{arith}
 use borrow.Author.Tests.{eqb-true, leb-true, ltb-false, ne_eqb, not-false}
 use lib.Dec.{eqb, leb, ltb}
+use Rattle.std.specs.Prelude.{None}
 use Rattle.rules.proofs.Tests.{both, either, neither}
 use Rattle.sender_answers.specs.Answers.{short, outside}
 use Rattle.sender_record.specs.Record.{idle, going, in_range, differs, held}
@@ -79,14 +79,14 @@ pub record Passed (r : Record) (n room : ℕ) : Type 0 where
   pub left : r.sent + 60 ≤ n
 
 -- the table's tests, one after the other
-record None (a b c d e : Bool) : Type 0 where
+record NoneApplies (a b c d e : Bool) : Type 0 where
   none30 : a ≡ false
   none31 : b ≡ false
   none32 : c ≡ false
   none33 : d ≡ false
   none34 : e ≡ false
 
-table_none : (a b c d e : Bool) → first_of a b c d e ≡ none → None a b c d e
+table_none : (a b c d e : Bool) → first_of a b c d e ≡ None → NoneApplies a b c d e
 table_none true b c d e h = let z : ◌≡◌ {A = ℕ} 0 1 = cc in absurd (let y : ⊥ = omega arith in y)
 table_none false true c d e h = let z : ◌≡◌ {A = ℕ} 0 1 = cc in absurd (let y : ⊥ = omega arith in y)
 table_none false false true d e h = let z : ◌≡◌ {A = ℕ} 0 1 = cc in absurd (let y : ⊥ = omega arith in y)
@@ -94,7 +94,7 @@ table_none false false false true e h = let z : ◌≡◌ {A = ℕ} 0 1 = cc in 
 table_none false false false false true h = let z : ◌≡◌ {A = ℕ} 0 1 = cc in absurd (let y : ⊥ = omega arith in y)
 table_none false false false false false h = record { none30 = refl; none31 = refl; none32 = refl; none33 = refl; none34 = refl }
 
-pub passed : (r : Record) (n room : ℕ) → refusal_of r n room ≡ none → Passed r n room
+pub passed : (r : Record) (n room : ℕ) → refusal_of r n room ≡ None → Passed r n room
 unfolding refusal_of
 passed r n room e =
     let k = table_none (short room) (not (in_range r)) (outside n) (differs r n) (held r) e in

@@ -42,107 +42,62 @@ impl Record {
 }
 
 // Whether no frame is in progress: all three 0.
+#[tactic(auto, unfolding(crate::specs::Record::idle))]
 fn is_idle(r: Record) -> bool
     ensures { result ≡ idle r }
 {
-    let fragment = r.fragment;
-    let count = fragment.0;
-    if r.length == 0 {
-        if r.sent == 0 {
-            return count == 0;
-        }
-        return false;
-    }
-    false
+    r.length == 0 && r.sent == 0 && r.fragment.0 == 0
 }
 
 // Whether the fields of a frame in progress are in range.
+#[tactic(auto, unfolding(crate::specs::Record::going))]
 fn is_going(r: Record) -> bool
     ensures { result ≡ going r }
 {
-    let fragment = r.fragment;
-    let count = fragment.0;
-    if r.length < BODY_LEAST {
-        return false;
-    }
-    if BODY_MOST < r.length {
-        return false;
-    }
-    if r.sent < PART_LEAST {
-        return false;
-    }
-    if r.length - PART_LEAST < r.sent {
-        return false;
-    }
-    count <= 3
+    (BODY_LEAST..=BODY_MOST).contains(&r.length)
+        && (PART_LEAST..=r.length - PART_LEAST).contains(&r.sent)
+        && r.fragment.0 <= 3
 }
 
+#[tactic(auto, unfolding(crate::specs::Record::in_range))]
 fn in_range(r: Record) -> bool
     ensures { result ≡ in_range r }
 {
-    let next = r.next;
-    let count = next.0;
-    if 3 < r.extra {
-        return false;
-    }
-    if 3 < count {
-        return false;
-    }
-    if is_idle(r) {
-        return true;
-    }
-    is_going(r)
+    r.extra <= 3 && r.next.0 <= 3 && (is_idle(r) || is_going(r))
 }
 
+#[tactic(auto, unfolding(crate::specs::Record::differs))]
 fn other_length(r: Record, n: usize) -> bool
     ensures { result ≡ differs r n }
 {
-    if r.length == 0 {
-        return false;
-    }
-    if r.length == n {
-        return false;
-    }
-    true
+    r.length != 0 && r.length != n
 }
 
 fn is_held(r: Record) -> bool
     ensures { result ≡ held r }
 {
-    if r.active {
-        return r.hold;
-    }
-    false
-}
-
-// Whether the call goes on.
-#[derive(Clone, Copy)]
-pub enum Ruling {
-    Go,
-    Stop(Refusal),
+    r.active && r.hold
 }
 
 // The table of refusals, in its order, for a body of n octets and a buffer of so many.
-pub fn rule(r: Record, n: usize, room: usize) -> Ruling
+#[tactic(auto, unfolding(crate::specs::Refusals::refusal_of))]
+pub fn rule(r: Record, n: usize, room: usize) -> Result<(), Refusal>
     ensures { ruled result ≡ refusal_of r n room }
 {
     if room < OUTPUT_LEAST {
-        return Ruling::Stop(Refusal::Output);
+        return Err(Refusal::Output);
     }
-    if in_range(r) {
-        if n < BODY_LEAST {
-            return Ruling::Stop(Refusal::Body);
-        }
-        if BODY_MOST < n {
-            return Ruling::Stop(Refusal::Body);
-        }
-        if other_length(r, n) {
-            return Ruling::Stop(Refusal::Length);
-        }
-        if is_held(r) {
-            return Ruling::Stop(Refusal::Hold);
-        }
-        return Ruling::Go;
+    if !in_range(r) {
+        return Err(Refusal::Record);
     }
-    Ruling::Stop(Refusal::Record)
+    if !(BODY_LEAST..=BODY_MOST).contains(&n) {
+        return Err(Refusal::Body);
+    }
+    if other_length(r, n) {
+        return Err(Refusal::Length);
+    }
+    if is_held(r) {
+        return Err(Refusal::Hold);
+    }
+    Ok(())
 }

@@ -1,8 +1,6 @@
 -- An ask and what a sending call says, as words of 32 bits.
 -- Assumes nothing.
-use Rattle.std.specs.Prelude.{cond, List, [], ◌∷◌, ℕ, ◌<◌, ◌^◌, eqb}
-use Rattle.cut.specs.declared.Ask.{Ask}
-use Rattle.cut.specs.declared.Ask.TheVariants.{None, At}
+use Rattle.std.specs.Prelude.{cond, List, [], ◌∷◌, ℕ, ◌<◌, ◌^◌, eqb, Option, Some, None}
 use Rattle.sender_answers.specs.Answers.{Said, wrote, refused}
 use Rattle.words.specs.Words.{flag}
 
@@ -25,5 +23,5 @@ Short (refused k) = Unit {0}
 abbrev pub no_ask : ℕ
 no_ask = 0xFFFF_FFFF_FFFF_FFFF
 
-abbrev pub ask_of : ℕ → Ask
-ask_of t = cond (eqb t no_ask) None (At t)
+abbrev pub ask_of : ℕ → Option ℕ
+ask_of t = cond (eqb t no_ask) None (Some t)

@@ -5,39 +5,35 @@ ghost use Rattle.std.specs.Prelude.{◌≡◌};
 ghost use Rattle.sender_answers.specs.Answers.{said};
 ghost use Rattle.sent_words.specs.Sent.{number_of, written_of, Short, ask_of};
 
-use cut::Ask;
-use sender_answers::Answer;
+use sender_answers::{Refusal, Written};
 
 // Stands for no ask.
 const NO_ASK: usize = 0xFFFF_FFFF_FFFF_FFFF;
 
 // The number that is returned.
-pub fn number_of(answer: Answer) -> u32
+pub fn number_of(answer: Result<Written, Refusal>) -> u32
     ensures { result ≡ number_of (said answer) }
 {
     match answer {
-        Answer::Wrote { length: _, done: _ } => 0,
-        Answer::Refused(why) => why.number(),
+        Ok(_) => 0,
+        Err(why) => why.number(),
     }
 }
 
 // The two words of what was written.
-pub fn written_of(answer: Answer) -> [u32; 2]
+pub fn written_of(answer: Result<Written, Refusal>) -> [u32; 2]
     requires { Short (said answer) }
     ensures { result ≡ written_of (said answer) }
 {
     match answer {
-        Answer::Wrote { length, done } => [length as u32, words::flag(done)],
-        Answer::Refused(_) => [0, 0],
+        Ok(Written { length, done }) => [length as u32, words::flag(done)],
+        Err(_) => [0, 0],
     }
 }
 
 // The ask that a number of 64 bits is.
-pub fn ask_of(ask: usize) -> Ask
+pub fn ask_of(ask: usize) -> Option<usize>
     ensures { result ≡ ask_of ask }
 {
-    if ask == NO_ASK {
-        return Ask::None;
-    }
-    Ask::At(ask)
+    if ask == NO_ASK { None } else { Some(ask) }
 }

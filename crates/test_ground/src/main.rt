@@ -3,7 +3,6 @@
 #![tactic(auto)]
 
 use codes::{FragmentCount, FrameCount};
-use cut::{Ask, Part};
 use delimiters::{Delimiter, Fragment};
 use endings::Ending;
 use std::process::ExitCode;
@@ -78,21 +77,17 @@ fn count(rt: HostRuntime, n: u8) -> Result<(), Stop> {
 }
 
 // Where an mFrame is cut.
-fn say_part(rt: HostRuntime, p: Part) -> Result<(), Stop> {
+fn say_part(rt: HostRuntime, cut: Option<usize>) -> Result<(), Stop> {
     say::text(rt, b"cut");
-    match p {
-        Part::Whole => say::text(rt, b" whole"),
-        Part::Cut(n) => say::number(rt, n as u64),
+    match cut {
+        None => say::text(rt, b" whole"),
+        Some(n) => say::number(rt, n as u64),
     }
     say::line_end(rt)
 }
 
-fn ask_of(asked: u8, t: usize) -> Ask {
-    if asked == 0 { Ask::None } else { Ask::At(t) }
-}
-
 fn cut_asked(rt: HostRuntime, q: Question) -> Result<(), Stop> {
-    let ask = ask_of(q.octet(18), q.long(19));
+    let ask = (q.octet(18) != 0).then_some(q.long(19));
     say_part(rt, cut::next_part(q.long(1), q.long(9), q.octet(17), ask))
 }
 

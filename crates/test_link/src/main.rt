@@ -6,8 +6,7 @@ mod chance;
 mod tally;
 
 use crate::tally::Tally;
-use cut::Ask;
-use sender_answers::Answer;
+use sender_answers::{Refusal, Written};
 use std::process::ExitCode;
 use test_questions::stop::Stop;
 use test_questions::{read, say};
@@ -28,30 +27,27 @@ struct Link {
 }
 
 // What a call wrote, or that it refused.
-fn wrote(l: Link, answer: Answer, preemptable: bool) -> Link {
+fn wrote(l: Link, answer: Result<Written, Refusal>, preemptable: bool) -> Link {
     match answer {
-        Answer::Wrote { length, done } => Link {
+        Ok(Written { length, done }) => Link {
             wrote: length,
             done,
             preemptable,
             ..l
         },
-        Answer::Refused(_) => Link { preemptable, ..l },
+        Err(_) => Link { preemptable, ..l },
     }
 }
 
-fn express(x: u32, out: &mut [u8; 1530]) -> Answer {
+fn express(x: u32, out: &mut [u8; 1530]) -> Result<Written, Refusal> {
     let mut body = [0u8; 1518];
     chance::fill(x, &mut body);
     single::express(read::front(&body, chance::length(x)), out)
 }
 
 // The ask of a preemptable call, from two draws.
-fn ask_of(a: u32, t: u32) -> Ask {
-    if chance::one_of(a, 4) == 0 {
-        return Ask::None;
-    }
-    Ask::At(chance::one_of(t, 400) as usize)
+fn ask_of(a: u32, t: u32) -> Option<usize> {
+    if chance::one_of(a, 4) == 0 { None } else { Some(chance::one_of(t, 400) as usize) }
 }
 
 // A frame chosen for a preemptable call, where none is in progress.

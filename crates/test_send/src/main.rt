@@ -3,8 +3,7 @@
 #![tactic(auto)]
 
 use codes::{FragmentCount, FrameCount};
-use cut::Ask;
-use sender_answers::Answer;
+use sender_answers::{Refusal, Written};
 use sender_record::Record;
 use std::process::ExitCode;
 use test_questions::read::Question;
@@ -20,13 +19,13 @@ struct Kept {
 }
 
 // The answer, and the FCS of all of the buffer.
-fn say_answer(rt: HostRuntime, answer: Answer, out: &[u8]) {
+fn say_answer(rt: HostRuntime, answer: Result<Written, Refusal>, out: &[u8]) {
     match answer {
-        Answer::Wrote { length, done } => {
+        Ok(Written { length, done }) => {
             say::number(rt, length as u64);
             say::flag(rt, done);
         }
-        Answer::Refused(refusal) => {
+        Err(refusal) => {
             say::text(rt, b" refused");
             say::number(rt, refusal.number() as u64);
         }
@@ -35,22 +34,20 @@ fn say_answer(rt: HostRuntime, answer: Answer, out: &[u8]) {
 }
 
 fn say_record(rt: HostRuntime, r: Record) {
-    let next = r.next;
-    let fragment = r.fragment;
     say::flag(rt, r.active);
     say::flag(rt, r.hold);
     say::small(rt, r.extra);
-    say::small(rt, next.0);
+    say::small(rt, r.next.0);
     say::number(rt, r.length as u64);
     say::number(rt, r.sent as u64);
-    say::small(rt, fragment.0);
+    say::small(rt, r.fragment.0);
 }
 
 // The answer of a call that keeps no record, behind the call's name.
 fn answered(
     rt: HostRuntime,
     name: &[u8],
-    answer: Answer,
+    answer: Result<Written, Refusal>,
     out: &[u8],
 ) -> Result<(), Stop> {
     say::text(rt, name);
@@ -88,15 +85,12 @@ fn record(q: Question) -> Record {
     }
 }
 
-fn ask_of(asked: u8, t: usize) -> Ask {
-    if asked == 0 { Ask::None } else { Ask::At(t) }
-}
-
 fn preemptable(rt: HostRuntime, kept: &mut Kept, q: Question) -> Result<(), Stop> {
     let mut space = [0u8; 2048];
     let out = read::lent(&mut space, q.short(10), q.octet(12))?;
     let body = read::front(&kept.space, kept.given);
-    let sent = send::preemptable(kept.record, body, ask_of(q.octet(1), q.long(2)), out);
+    let ask = (q.octet(1) != 0).then_some(q.long(2));
+    let sent = send::preemptable(kept.record, body, ask, out);
     kept.record = sent.after;
     say::text(rt, b"preemptable");
     say_answer(rt, sent.answer, out);

@@ -3,28 +3,26 @@
 // among these. The picture of the README is drawn from what this prints, and adds those two.
 #![tactic(auto)]
 
-use cut::{Ask, Part};
-use sender_answers::Answer;
+use sender_answers::{Refusal, Written};
 use sender_record::Record;
 use std::process::ExitCode;
 use test_questions::{say, stop};
 
-fn say_length(rt: HostRuntime, what: &[u8], answer: Answer) {
+fn say_length(rt: HostRuntime, what: &[u8], answer: Result<Written, Refusal>) {
     say::text(rt, what);
     match answer {
-        Answer::Wrote { length, done: _ } => say::number(rt, length as u64),
-        Answer::Refused(_) => say::text(rt, b" refused"),
+        Ok(written) => say::number(rt, written.length as u64),
+        Err(_) => say::text(rt, b" refused"),
     }
     let _ = say::line_end(rt);
 }
 
 // The next mFrame of the photograph, and the record after it.
-fn photograph(rt: HostRuntime, what: &[u8], record: Record, ask: Ask) -> Record {
+fn photograph(rt: HostRuntime, what: &[u8], record: Record, ask: Option<usize>) -> Record {
     let body = [0u8; 1518];
     let mut out = [0u8; 1530];
     let sent = send::preemptable(record, &body, ask, &mut out);
-    let answer = sent.answer;
-    say_length(rt, what, answer);
+    say_length(rt, what, sent.answer);
     sent.after
 }
 
@@ -36,9 +34,9 @@ fn press(rt: HostRuntime) {
 
 // The octets of an mFrame behind the ask: what is left of the frame, or the part up to the cut and its check octets.
 fn behind(frame: usize, asked: usize) -> usize {
-    match cut::next_part(frame, 0, 0, Ask::At(asked)) {
-        Part::Whole => frame.saturating_sub(asked),
-        Part::Cut(n) => n.saturating_sub(asked) % 4294967296 + 4,
+    match cut::next_part(frame, 0, 0, Some(asked)) {
+        None => frame.saturating_sub(asked),
+        Some(n) => n.saturating_sub(asked).saturating_add(4),
     }
 }
 
@@ -59,16 +57,16 @@ fn main(rt: HostRuntime) -> ExitCode {
         rt,
         b"photograph whole",
         Record::fresh(false, false, 0),
-        Ask::None,
+        None,
     );
     let cut = photograph(
         rt,
         b"photograph first",
         Record::fresh(true, false, 0),
-        Ask::At(0),
+        Some(0),
     );
     press(rt);
-    photograph(rt, b"photograph rest", cut, Ask::None);
+    photograph(rt, b"photograph rest", cut, None);
     say::text(rt, b"longest wait cut");
     say::number(rt, most(1522) as u64);
     stop::end(rt, b"test_waits", say::line_end(rt))
