@@ -3,10 +3,10 @@
 use mathlib.Core.Path.{◌≡◌, refl}
 use Prim.Native.Nat.{ℕ, zero, suc, ◌<◌}
 use native.Mathlib.Omega.{arith}
+use Rattle.std.specs.Prelude.{Some}
 use Rattle.codes.specs.Codes.{frame, fragment, express_code, verify_code, respond_code, start_code, continuation_code, fragment_code}
 use Rattle.delimiters.specs.Delimiters.{meaning, delimiter_of, fragment_of}
 use Rattle.delimiters.specs.declared.Delimiter.TheVariants as D
-use Rattle.delimiters.specs.declared.Fragment.TheVariants as F
 
 -- a number under 4 is 0, 1, 2 or 3
 under_four : (P : ℕ → Type 0) → P 0 → P 1 → P 2 → P 3 → (n : ℕ) → n < 4 → P n
@@ -24,9 +24,9 @@ pub continuation_read : (n : ℕ) → n < 4 → delimiter_of (continuation_code 
 unfolding delimiter_of meaning
 continuation_read = under_four (λ (n : ℕ). delimiter_of (continuation_code (frame n)) ≡ D.Continuation (frame n)) refl refl refl refl
 
-pub fragment_read : (n : ℕ) → n < 4 → fragment_of (fragment_code (fragment n)) ≡ F.Known (fragment n)
+pub fragment_read : (n : ℕ) → n < 4 → fragment_of (fragment_code (fragment n)) ≡ Some (fragment n)
 unfolding fragment_of meaning
-fragment_read = under_four (λ (n : ℕ). fragment_of (fragment_code (fragment n)) ≡ F.Known (fragment n)) refl refl refl refl
+fragment_read = under_four (λ (n : ℕ). fragment_of (fragment_code (fragment n)) ≡ Some (fragment n)) refl refl refl refl
 
 pub express_read : delimiter_of express_code ≡ D.Express
 unfolding delimiter_of meaning

@@ -2,9 +2,10 @@
 -- Assumes nothing.
 use mathlib.Core.Path.{◌≡◌, sym, ◌∙◌}
 use Prim.Native.Nat.{ℕ}
+use Rattle.std.specs.Prelude.{Option}
 use Rattle.delimiters.specs.Delimiters.{distance_of, delimiter_of, fragment_of}
 use Rattle.delimiters.specs.declared.Delimiter.{Delimiter}
-use Rattle.delimiters.specs.declared.Fragment.{Fragment}
+use Rattle.codes.specs.declared.FragmentCount.{FragmentCount}
 
 -- what an octet says
 module _ (octet : ℕ) where
@@ -14,5 +15,5 @@ module _ (octet : ℕ) where
   pub delimiter_of_once : {x y : Delimiter} → x ≡ delimiter_of octet → y ≡ delimiter_of octet → x ≡ y
   delimiter_of_once p q = p ∙ sym q
 
-  pub fragment_of_once : {x y : Fragment} → x ≡ fragment_of octet → y ≡ fragment_of octet → x ≡ y
+  pub fragment_of_once : {x y : Option FragmentCount} → x ≡ fragment_of octet → y ≡ fragment_of octet → x ≡ y
   fragment_of_once p q = p ∙ sym q

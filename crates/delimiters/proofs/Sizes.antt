@@ -3,12 +3,12 @@
 use mathlib.Core.List.{List, [], ◌∷◌}
 use Prim.Native.Nat.{ℕ, ◌≤◌, ◌<◌}
 use native.Mathlib.Omega.{arith}
+use Rattle.std.specs.Prelude.{Option, Some, None}
 use lib.Dec.{eqb}
 use Rattle.delimiters.specs.Delimiters.{meaning, distance_of, delimiter_of, fragment_of}
 use Rattle.delimiters.specs.declared.Delimiter.{Delimiter}
 use Rattle.delimiters.specs.declared.Delimiter.TheVariants as D
-use Rattle.delimiters.specs.declared.Fragment.{Fragment}
-use Rattle.delimiters.specs.declared.Fragment.TheVariants as F
+use Rattle.codes.specs.declared.FragmentCount.{FragmentCount}
 use Rattle.rules.proofs.Tests.{chosen}
 use Rattle.delimiters.proofs.Bits.{least_eight}
 
@@ -39,9 +39,9 @@ delimiter_small x =
     (tt, (small.0, (small.1.0, (small.1.1.0, (small.1.1.1, (small.0, (small.1.0, (small.1.1.0, (small.1.1.1, (tt, (tt, tt)))))))))))
     (least_eight _)
 
-abbrev pub SmallFragment : Fragment → Type 0
-SmallFragment (F.Known n) = n.0 < 4
-SmallFragment F.Unknown = Unit {0}
+abbrev pub SmallFragment : Option FragmentCount → Type 0
+SmallFragment (Some n) = n.0 < 4
+SmallFragment None = Unit {0}
 
 pub fragment_small : (x : ℕ) → SmallFragment (fragment_of x)
 unfolding fragment_of

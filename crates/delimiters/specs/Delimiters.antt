@@ -1,13 +1,12 @@
 -- What an octet says as a delimiter and as a fragment code, by the table of document 01, "Octets of an mFrame", and its distance from the
 -- eleven delimiters. Assumes nothing.
-use Rattle.std.specs.Prelude.{cond, List, [], ◌∷◌, ◌++◌, map, ℕ, min, eqb}
+use Rattle.std.specs.Prelude.{cond, List, [], ◌∷◌, ◌++◌, map, ℕ, min, eqb, Option, Some, None}
 use Rattle.std.specs.Int.Bits.{bit_xor}
 use Rattle.std.specs.Int.Count.{ones}
 use Rattle.codes.specs.Codes.{frame, fragment, express_code, start_codes, continuation_codes, verify_code, respond_code, fragment_codes}
 use Rattle.delimiters.specs.declared.Delimiter.{Delimiter}
 use Rattle.delimiters.specs.declared.Delimiter.TheVariants as D
-use Rattle.delimiters.specs.declared.Fragment.{Fragment}
-use Rattle.delimiters.specs.declared.Fragment.TheVariants as F
+use Rattle.codes.specs.declared.FragmentCount.{FragmentCount}
 
 -- the eleven delimiters, and what each says
 abbrev pub eleven : List ℕ
@@ -41,5 +40,5 @@ meaning x (c ∷ cs) (m ∷ ms) other = cond (eqb x c) m (meaning x cs ms other)
 unfoldable pub delimiter_of : ℕ → Delimiter
 delimiter_of x = meaning x eleven kinds (D.Unknown (distance_of x))
 
-unfoldable pub fragment_of : ℕ → Fragment
-fragment_of x = meaning x fragment_codes (map (λ n. F.Known (fragment n)) (0 ∷ 1 ∷ 2 ∷ 3 ∷ [])) F.Unknown
+unfoldable pub fragment_of : ℕ → Option FragmentCount
+fragment_of x = meaning x fragment_codes (map (λ n. Some (fragment n)) (0 ∷ 1 ∷ 2 ∷ 3 ∷ [])) None

@@ -46,6 +46,7 @@ pub enum Delimiter {
     Unknown(u32),
 }
 
+#[tactic(auto, using(rules::proofs::Tests::tests), unfolding(crate::specs::Delimiters::delimiter_of, crate::specs::Delimiters::meaning))]
 pub fn delimiter_of(octet: u8) -> Delimiter
     ensures { result ≡ delimiter_of octet }
 {
@@ -65,21 +66,16 @@ pub fn delimiter_of(octet: u8) -> Delimiter
     }
 }
 
-// What an octet says as a fragment code.
-#[derive(Clone, Copy)]
-pub enum Fragment {
-    Known(FragmentCount),
-    Unknown,
-}
-
-pub fn fragment_of(octet: u8) -> Fragment
+// What an octet says as a fragment code; any other octet than the four says nothing.
+#[tactic(auto, using(rules::proofs::Tests::tests), unfolding(crate::specs::Delimiters::fragment_of, crate::specs::Delimiters::meaning))]
+pub fn fragment_of(octet: u8) -> Option<FragmentCount>
     ensures { result ≡ fragment_of octet }
 {
     match octet {
-        0xE6 => Fragment::Known(FragmentCount(0)),
-        0x4C => Fragment::Known(FragmentCount(1)),
-        0x7F => Fragment::Known(FragmentCount(2)),
-        0xB3 => Fragment::Known(FragmentCount(3)),
-        _ => Fragment::Unknown,
+        0xE6 => Some(FragmentCount(0)),
+        0x4C => Some(FragmentCount(1)),
+        0x7F => Some(FragmentCount(2)),
+        0xB3 => Some(FragmentCount(3)),
+        _ => None,
     }
 }

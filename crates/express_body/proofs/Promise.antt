@@ -7,14 +7,13 @@ use Prim.Native.Nat.{ℕ, ◌-◌}
 use native.Mathlib.Omega.{arith}
 use lib.Dec.{eqb}
 use lib.ListN.{length, take, drop, length-drop}
+use Rattle.std.specs.Prelude.{Result, Ok, Err}
 use Rattle.endings.specs.Judge.{data_of}
 use Rattle.endings.proofs.Endings.{data_length}
-use Rattle.mframe.specs.declared.Kind.{Kind}
 use Rattle.faults.specs.Faults.{fault_number, fault_detail}
 use Rattle.heads.specs.Head.{Reading, refused, reading, head_of}
 use Rattle.faults.specs.declared.Fault.{Fault}
 use Rattle.heads.specs.declared.Head.{Head}
-use Rattle.heads.specs.declared.Head.TheVariants.{Known, Refused}
 use Rattle.receiver_record.specs.Records.{fresh, in_range}
 use Rattle.assembly.specs.Steps.{step_of}
 use Rattle.receive.specs.Receive.{by_head, received_of, data_in}
@@ -38,19 +37,19 @@ none_by : (number detail : ℕ) (m : List ℕ) (b : Bool) → part_by_lem b (ref
 none_by number detail m true = refl
 none_by number detail m false = refl
 
-pub no_part : (m : List ℕ) {h : Head} {fault : Fault} → reading h ≡ head_of m → h ≡ Refused fault → none ≡ part_in m
+pub no_part : (m : List ℕ) {got : Result Head Fault} {fault : Fault} → reading got ≡ head_of m → got ≡ Err fault → none ≡ part_in m
 no_part m {fault = fault} read e = sym (part_by m ∙ rw (← read, e) (none_by (fault_number fault) (fault_detail fault) m (eqb (fault_number fault) 0)))
 
-module _ (m : List ℕ) {h : Head} {kind : Kind} {place : ℕ} (read : reading h ≡ head_of m) (e : h ≡ Known kind place) {flag : Bool}
-    (tested : flag ≡ express_delivered kind (take (length m - place) (drop place m))) where
-  zero_is : eqb (step_of kind (drop place m) fresh).said.number 0 ≡ flag
-  zero_is = zero_delivers kind (drop place m) ∙ sym (tested ∙ ap (express_delivered kind) (part m read e))
+module _ (m : List ℕ) {got : Result Head Fault} {head : Head} (read : reading got ≡ head_of m) (e : got ≡ Ok head) {flag : Bool}
+    (tested : flag ≡ express_delivered head.kind (take (length m - head.place) (drop head.place m))) where
+  zero_is : eqb (step_of head.kind (drop head.place m) fresh).said.number 0 ≡ flag
+  zero_is = zero_delivers head.kind (drop head.place m) ∙ sym (tested ∙ ap (express_delivered head.kind) (part m read e))
 
-  size : length m - 4 - place ≡ length (data_of (drop place m))
-  size = omega (arith, data_length (drop place m), length-drop place m)
+  size : length m - 4 - head.place ≡ length (data_of (drop head.place m))
+  size = omega (arith, data_length (drop head.place m), length-drop head.place m)
 
-  pub body : flag ≡ true → record { start = place; length = length m - 4 - place } ≡ part_in m
-  body q = ap (λ (n : ℕ). record { start = place; length = n }) size ∙ sym (part_by m ∙ rw (knows m read e, zero_is, q) refl)
+  pub body : flag ≡ true → record { start = head.place; length = length m - 4 - head.place } ≡ part_in m
+  body q = ap (λ (n : ℕ). record { start = head.place; length = n }) size ∙ sym (part_by m ∙ rw (knows m read e, zero_is, q) refl)
 
   pub other : flag ≡ false → none ≡ part_in m
   other q = sym (part_by m ∙ rw (knows m read e, zero_is, q) refl)

@@ -5,31 +5,20 @@ ghost use Rattle.std.specs.Prelude.{◌≡◌};
 ghost use Rattle.express_body.specs.Body.{is_done, express_delivered, part_in, HandedBack};
 
 use endings::Ending;
-use heads::Head;
 use mframe::{CHECK, Kind};
 
 // Whether the last four octets are the FCS of the frame so far.
 fn is_done(ending: Ending) -> bool
     ensures { result ≡ is_done ending }
 {
-    match ending {
-        Ending::Done(_) => true,
-        Ending::More(_, _) => false,
-        Ending::Damaged => false,
-    }
+    matches!(ending, Ending::Done(_))
 }
 
 // Whether an mFrame of a kind, by its data and check octets, is an express frame that is delivered.
 fn delivers_express(kind: Kind, octets: &[u8]) -> bool
     ensures { result ≡ express_delivered kind octets.now }
 {
-    match kind {
-        Kind::Express => is_done(endings::judge(crc::ALL_ONES, octets)),
-        Kind::Start(_) => false,
-        Kind::Continuation(_, _) => false,
-        Kind::Verify => false,
-        Kind::Respond => false,
-    }
+    matches!(kind, Kind::Express) && is_done(endings::judge(crc::ALL_ONES, octets))
 }
 
 // A part of an mFrame: it starts at this place and has this many octets.
@@ -51,14 +40,14 @@ impl Part {
 pub fn part_in(mframe: &[u8]) -> Part
     ensures { result ≡ part_in mframe.now }
 {
-    let Head::Known(kind, place) = heads::head_of(mframe) else {
+    let Ok(head) = heads::head_of(mframe) else {
         return Part::NONE;
     };
-    if delivers_express(kind, &mframe[place..]) {
+    if delivers_express(head.kind, &mframe[head.place..]) {
         let end = mframe.len() - CHECK;
         return Part {
-            start: place,
-            length: end - place,
+            start: head.place,
+            length: end - head.place,
         };
     }
     Part::NONE

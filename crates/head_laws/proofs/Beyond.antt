@@ -9,12 +9,12 @@ use borrow.Author.Tests.{lt-ltb, le-ltb, ltb-true, ltb-false}
 use lib.Dec.{ltb}
 use lib.ListN.{length, take, get_or}
 use lib.Seq.{get_or-take, length-take-le}
+use Rattle.std.specs.Prelude.{Option, Some, None}
 use Rattle.codes.specs.declared.FrameCount.{FrameCount}
+use Rattle.codes.specs.declared.FragmentCount.{FragmentCount}
 use Rattle.delimiters.specs.Delimiters.{delimiter_of, fragment_of}
 use Rattle.delimiters.specs.declared.Delimiter.{Delimiter}
 use Rattle.delimiters.specs.declared.Delimiter.TheVariants as D
-use Rattle.delimiters.specs.declared.Fragment.{Fragment}
-use Rattle.delimiters.specs.declared.Fragment.TheVariants as F
 use Rattle.mframe.specs.declared.Kind.{Kind}
 use Rattle.mframe.specs.declared.Kind.TheVariants as K
 use Rattle.preambles.specs.Preamble.{leading}
@@ -49,9 +49,9 @@ module _ (m : List ℕ) (long : 1531 < length m) where
       by true = refl
       by false = refl
 
-  coded_beyond : (frame : FrameCount) (g : Fragment) (place : ℕ) → place ≤ 9 → coded_of frame g place (length m) ≡ beyond (coded_of frame g place (length front))
-  coded_beyond frame (F.Known fragment) place h = sized_beyond (K.Continuation frame fragment) place h
-  coded_beyond frame F.Unknown place h = refl
+  coded_beyond : (frame : FrameCount) (g : Option FragmentCount) (place : ℕ) → place ≤ 9 → coded_of frame g place (length m) ≡ beyond (coded_of frame g place (length front))
+  coded_beyond frame (Some fragment) place h = sized_beyond (K.Continuation frame fragment) place h
+  coded_beyond frame None place h = refl
 
   delimited_beyond : (d : Delimiter) (place : ℕ) → place ≤ 8 → delimited_of d place m ≡ beyond (delimited_of d place front)
   delimited_beyond D.Express place h = sized_beyond K.Express place (omega arith)

@@ -8,12 +8,12 @@ use native.Mathlib.Omega.{arith}
 use borrow.Author.Tests.{lt-ltb, le-ltb, ltb-true, ltb-false}
 use lib.Dec.{ltb}
 use lib.ListN.{length, get_or}
+use Rattle.std.specs.Prelude.{Option, Some, None}
 use Rattle.codes.specs.declared.FrameCount.{FrameCount}
+use Rattle.codes.specs.declared.FragmentCount.{FragmentCount}
 use Rattle.delimiters.specs.Delimiters.{delimiter_of, fragment_of}
 use Rattle.delimiters.specs.declared.Delimiter.{Delimiter}
 use Rattle.delimiters.specs.declared.Delimiter.TheVariants as D
-use Rattle.delimiters.specs.declared.Fragment.{Fragment}
-use Rattle.delimiters.specs.declared.Fragment.TheVariants as F
 use Rattle.mframe.specs.declared.Kind.{Kind}
 use Rattle.mframe.specs.declared.Kind.TheVariants as K
 use Rattle.preambles.specs.Preamble.{leading}
@@ -48,9 +48,9 @@ module _ (x : ℕ) (m : List ℕ) where
       by false true = refl
       by false false = refl
 
-  coded_later : (frame : FrameCount) (g : Fragment) (place : ℕ) → coded_of frame g (suc place) (length (x ∷ m)) ≡ later (coded_of frame g place (length m))
-  coded_later frame (F.Known fragment) place = sized_later (K.Continuation frame fragment) place
-  coded_later frame F.Unknown place = refl
+  coded_later : (frame : FrameCount) (g : Option FragmentCount) (place : ℕ) → coded_of frame g (suc place) (length (x ∷ m)) ≡ later (coded_of frame g place (length m))
+  coded_later frame (Some fragment) place = sized_later (K.Continuation frame fragment) place
+  coded_later frame None place = refl
 
   delimited_later : (d : Delimiter) (place : ℕ) → delimited_of d (suc place) (x ∷ m) ≡ later (delimited_of d place m)
   delimited_later D.Express place = sized_later K.Express place

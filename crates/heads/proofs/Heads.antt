@@ -7,13 +7,13 @@ use borrow.Author.Tests.{ltb-false}
 use lib.Dec.{ltb}
 use lib.ListN.{length, get_or}
 use Rattle.delimiters.specs.Delimiters.{delimiter_of, fragment_of}
+use Rattle.std.specs.Prelude.{Option, Some, None}
 use Rattle.codes.specs.declared.FrameCount.{FrameCount}
+use Rattle.codes.specs.declared.FragmentCount.{FragmentCount}
 use Rattle.rules.proofs.Tests.{chosen, by_test}
 use Rattle.delimiters.proofs.Sizes.{Small, delimiter_small, SmallFragment, fragment_small}
 use Rattle.delimiters.specs.declared.Delimiter.{Delimiter}
 use Rattle.delimiters.specs.declared.Delimiter.TheVariants as D
-use Rattle.delimiters.specs.declared.Fragment.{Fragment}
-use Rattle.delimiters.specs.declared.Fragment.TheVariants as F
 use Rattle.preambles.specs.Preamble.{leading}
 use Rattle.heads.specs.Head.{Reading, known, refused, sized_of, coded_of, delimited_of, head_of}
 use Rattle.mframe.specs.declared.Kind.{Kind}
@@ -61,9 +61,9 @@ good_sized n kind place h u =
     (λ q. record { early = h; least = ltb-false _ _ p; most = ltb-false _ _ q; counted = u }))
 
 module _ (m : List ℕ) (place : ℕ) (h : place ≤ 8) where
-  good_coded : (frame : FrameCount) (g : Fragment) → frame.0 ≤ 3 → SmallFragment g → Good (length m) (coded_of frame g (place + 1) (length m))
-  good_coded frame (F.Known k) u v = good_sized (length m) (K.Continuation frame k) (place + 1) (omega arith) (omega arith, v)
-  good_coded frame F.Unknown u v = n17
+  good_coded : (frame : FrameCount) (g : Option FragmentCount) → frame.0 ≤ 3 → SmallFragment g → Good (length m) (coded_of frame g (place + 1) (length m))
+  good_coded frame (Some k) u v = good_sized (length m) (K.Continuation frame k) (place + 1) (omega arith) (omega arith, v)
+  good_coded frame None u v = n17
 
   good_delimited : (d : Delimiter) → Small d → Good (length m) (delimited_of d place m)
   good_delimited D.Express u = good_sized (length m) K.Express place (omega arith) tt

@@ -1,4 +1,3 @@
-pub mod Counted
 pub mod Heads
 pub mod Laws
 pub mod Once

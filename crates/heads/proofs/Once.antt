@@ -4,24 +4,25 @@ use mathlib.Core.Path.{◌≡◌, refl, sym, ap, ◌∙◌}
 use mathlib.Core.Bool.{Bool}
 use mathlib.Core.List.{List}
 use Prim.Native.Nat.{ℕ}
+use Rattle.std.specs.Prelude.{Result, Ok, Err}
 use Rattle.faults.proofs.Once.{fault_of, fault_back}
 use Rattle.heads.specs.Head.{Reading, reading, head_of, is_known}
 use Rattle.heads.specs.Head as H
+use Rattle.faults.specs.declared.Fault.{Fault}
 use Rattle.heads.specs.declared.Head.{Head}
-use Rattle.heads.specs.declared.Head.TheVariants as Heads
 
--- a head, from what it is told as
-unread : Reading → Head
-unread (H.known kind place) = Heads.Known kind place
-unread (H.refused k bits) = Heads.Refused (fault_of k bits)
+-- a head or its refusal, from what it is told as
+unread : Reading → Result Head Fault
+unread (H.known kind place) = Ok (record { kind = kind; place = place })
+unread (H.refused k bits) = Err (fault_of k bits)
 
-again : (h : Head) → unread (reading h) ≡ h
+again : (h : Result Head Fault) → unread (reading h) ≡ h
 unfolding unread
-again (Heads.Known kind place) = refl
-again (Heads.Refused fault) = ap Heads.Refused (fault_back fault)
+again (Ok head) = refl
+again (Err fault) = ap (λ (f : Fault). Err f) (fault_back fault)
 
 -- head_of: no second head
-pub head_of_once : (m : List ℕ) {x y : Head} → reading x ≡ head_of m → reading y ≡ head_of m → x ≡ y
+pub head_of_once : (m : List ℕ) {x y : Result Head Fault} → reading x ≡ head_of m → reading y ≡ head_of m → x ≡ y
 head_of_once m {x} {y} p q = sym (again x) ∙ ap unread (p ∙ sym q) ∙ again y
 
 -- is_known: no second answer

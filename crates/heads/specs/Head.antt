@@ -1,35 +1,34 @@
 -- What the head of any octets says (document 01, "Receiving", with the heads of document 02, (vi)). Assumes nothing.
-use Rattle.std.specs.Prelude.{Bool, true, false, cond, List, ℕ, ◌+◌, ltb, length, get_or}
+use Rattle.std.specs.Prelude.{Bool, true, false, cond, List, ℕ, ◌+◌, ltb, length, get_or, Option, Some, None, Result, Ok, Err}
 use Rattle.delimiters.specs.Delimiters.{delimiter_of, fragment_of}
 use Rattle.codes.specs.declared.FrameCount.{FrameCount}
+use Rattle.codes.specs.declared.FragmentCount.{FragmentCount}
 use Rattle.delimiters.specs.declared.Delimiter.{Delimiter}
 use Rattle.delimiters.specs.declared.Delimiter.TheVariants as D
-use Rattle.delimiters.specs.declared.Fragment.{Fragment}
-use Rattle.delimiters.specs.declared.Fragment.TheVariants as F
 use Rattle.mframe.specs.declared.Kind.{Kind}
 use Rattle.mframe.specs.declared.Kind.TheVariants as K
 use Rattle.preambles.specs.Preamble.{leading}
 use Rattle.faults.specs.Faults.{fault_number, fault_detail}
+use Rattle.faults.specs.declared.Fault.{Fault}
 use Rattle.heads.specs.declared.Head.{Head}
-use Rattle.heads.specs.declared.Head.TheVariants.{Known, Refused}
 
 -- a head as the paper gives it: the kind and the place where the data begin, or a refusal's number and its value
 pub data Reading : Type 0 where
   known : Kind → (place : ℕ) → Reading
   refused : (number detail : ℕ) → Reading
 
-abbrev pub reading : Head → Reading
-reading (Known kind place) = known kind place
-reading (Refused fault) = refused (fault_number fault) (fault_detail fault)
+abbrev pub reading : Result Head Fault → Reading
+reading (Ok head) = known head.kind head.place
+reading (Err fault) = refused (fault_number fault) (fault_detail fault)
 
 -- a header that ends at a place, of so many octets in all: behind it are 64 to 1,522, else 12 or 13
 abbrev pub sized_of : Kind → (place all : ℕ) → Reading
 sized_of kind place all = cond (ltb all (place + 64)) (refused 12 0) (cond (ltb (place + 1522) all) (refused 13 0) (known kind place))
 
 -- a C whose fragment code is read: 17 is any octet but the four
-abbrev pub coded_of : FrameCount → Fragment → (place all : ℕ) → Reading
-coded_of frame (F.Known fragment) place all = sized_of (K.Continuation frame fragment) place all
-coded_of frame F.Unknown place all = refused 17 0
+abbrev pub coded_of : FrameCount → Option FragmentCount → (place all : ℕ) → Reading
+coded_of frame (Some fragment) place all = sized_of (K.Continuation frame fragment) place all
+coded_of frame None place all = refused 17 0
 
 -- a C, with the fragment code at a place; "input that ends before its .. fragment code is 12"
 abbrev pub fragmented_of : FrameCount → (place : ℕ) → List ℕ → Reading

@@ -3,13 +3,12 @@
 
 mod read;
 
-use faults::Fault;
 use mframe::Kind;
 pub use read::{head_of, is_known};
 
-// What the head of an mFrame says: its kind and the place where the data begin, or why it is refused.
+// What the head of an mFrame says where it is not refused: the kind and the place where the data begin.
 #[derive(Clone, Copy)]
-pub enum Head {
-    Known(Kind, usize),
-    Refused(Fault),
+pub struct Head {
+    pub kind: Kind,
+    pub place: usize,
 }

@@ -4,7 +4,7 @@ ghost use Rattle.heads.specs.Head.{reading, sized_of, fragmented_of, delimited_o
 
 use crate::Head;
 use codes::FrameCount;
-use delimiters::{Delimiter, Fragment};
+use delimiters::Delimiter;
 use faults::Fault;
 use mframe::Kind;
 use preambles::TOO_MANY;
@@ -15,39 +15,31 @@ const LEAST: usize = 64;
 const MOST: usize = 1522;
 
 // A kind whose header ends at a place: whether the octets behind it are as many as an mFrame has.
-fn sized(kind: Kind, place: usize, length: usize) -> Head
+fn sized(kind: Kind, place: usize, length: usize) -> Result<Head, Fault>
     requires { place ≤ 9 }
     ensures { reading result ≡ sized_of kind place length }
 {
     if length < place + LEAST {
-        return Head::Refused(Fault::Short);
+        return Err(Fault::Short);
     }
     if place + MOST < length {
-        return Head::Refused(Fault::Long);
+        return Err(Fault::Long);
     }
-    Head::Known(kind, place)
+    Ok(Head { kind, place })
 }
 
 // A continuation, with its fragment code at place code.
-fn fragmented(frame: FrameCount, code: usize, mframe: &[u8]) -> Head
+fn fragmented(frame: FrameCount, code: usize, mframe: &[u8]) -> Result<Head, Fault>
     requires { code ≤ 8 }
     ensures { reading result ≡ fragmented_of frame code mframe.now }
 {
-    if mframe.len() <= code {
-        return Head::Refused(Fault::Short);
-    }
-    match delimiters::fragment_of(mframe[code]) {
-        Fragment::Known(fragment) => sized(
-            Kind::Continuation(frame, fragment),
-            code + 1,
-            mframe.len(),
-        ),
-        Fragment::Unknown => Head::Refused(Fault::Fragment),
-    }
+    let octet = *mframe.get(code).ok_or(Fault::Short)?;
+    let fragment = delimiters::fragment_of(octet).ok_or(Fault::Fragment)?;
+    sized(Kind::Continuation(frame, fragment), code + 1, mframe.len())
 }
 
 // A delimiter that ends before a place.
-fn delimited(delimiter: Delimiter, place: usize, mframe: &[u8]) -> Head
+fn delimited(delimiter: Delimiter, place: usize, mframe: &[u8]) -> Result<Head, Fault>
     requires { place ≤ 8 }
     ensures { reading result ≡ delimited_of delimiter place mframe.now }
 {
@@ -57,30 +49,26 @@ fn delimited(delimiter: Delimiter, place: usize, mframe: &[u8]) -> Head
         Delimiter::Continuation(frame) => fragmented(frame, place, mframe),
         Delimiter::Verify => sized(Kind::Verify, place, mframe.len()),
         Delimiter::Respond => sized(Kind::Respond, place, mframe.len()),
-        Delimiter::Unknown(bits) => Head::Refused(Fault::Delimiter(bits)),
+        Delimiter::Unknown(bits) => Err(Fault::Delimiter(bits)),
     }
 }
 
 // The head of any octets.
-pub fn head_of(mframe: &[u8]) -> Head
+#[tactic(auto, using(rules::proofs::Tests::tests), unfolding(crate::specs::Head::head_of))]
+pub fn head_of(mframe: &[u8]) -> Result<Head, Fault>
     ensures { reading result ≡ head_of mframe.now }
 {
     let place = preambles::lead(mframe) as usize;
     if place == TOO_MANY as usize {
-        return Head::Refused(Fault::Preamble);
+        return Err(Fault::Preamble);
     }
-    if mframe.len() <= place {
-        return Head::Refused(Fault::Short);
-    }
-    delimited(delimiters::delimiter_of(mframe[place]), place + 1, mframe)
+    let octet = *mframe.get(place).ok_or(Fault::Short)?;
+    delimited(delimiters::delimiter_of(octet), place + 1, mframe)
 }
 
 // Whether octets have a head that is not refused.
 pub fn is_known(mframe: &[u8]) -> bool
     ensures { result ≡ is_known (head_of mframe.now) }
 {
-    match head_of(mframe) {
-        Head::Known(_, _) => true,
-        Head::Refused(_) => false,
-    }
+    head_of(mframe).is_ok()
 }

@@ -7,6 +7,7 @@ use Prim.Native.Nat.{ℕ, ◌-◌, ◌≤◌, ◌<◌}
 use native.Mathlib.Nat.{sub-zero}
 use borrow.Author.Tests.{lt-ltb, le-ltb}
 use lib.ListN.{length, take, drop}
+use Rattle.std.specs.Prelude.{Result, Ok, Err}
 use Rattle.octets.specs.Laid.{laid}
 use Rattle.endings.specs.Judge.{data_of}
 use Rattle.endings.proofs.Endings.{data_length}
@@ -15,7 +16,6 @@ use Rattle.heads.specs.Head.{reading, head_of}
 use Rattle.mframe.specs.declared.Kind.{Kind}
 use Rattle.faults.specs.declared.Fault.{Fault}
 use Rattle.heads.specs.declared.Head.{Head}
-use Rattle.heads.specs.declared.Head.TheVariants.{Known, Refused}
 use Rattle.receiver_record.specs.declared.Record.{Record}
 use Rattle.outcomes.specs.declared.Received.{Received}
 use Rattle.receiver_answers.specs.Answers.{Said, says, said}
@@ -67,19 +67,19 @@ module _ (m : List ℕ) (r : Record) (b : List ℕ) {got : Received} where
         let t = ap not (sym tested) ∙ q in
         record { step = e ∙ sym (simp (le-ltb _ _ h, t)); octets = simp (le-ltb _ _ h, t) }
 
-    module _ (q : not flag ≡ false) {head : Head} (read : reading head ≡ head_of m) where
-      pub answered : {kind : Kind} {place : ℕ} {b' : List ℕ} → head ≡ Known kind place → Taken kind (take (length m - place) (drop place m)) r b got b'
+    module _ (q : not flag ≡ false) {read_as : Result Head Fault} (read : reading read_as ≡ head_of m) where
+      pub answered : {head : Head} {b' : List ℕ} → read_as ≡ Ok head → Taken head.kind (take (length m - head.place) (drop head.place m)) r b got b'
           → Answered m r b got b'
       unfolding received_of buffer_of
-      answered {kind} {place} e t =
+      answered {head} e t =
           let in-range = ap not (sym tested) ∙ q in
           record {
-            step = t.step ∙ ap (λ (l : List ℕ). step_of kind l r) (part m read e) ∙ sym (simp (le-ltb _ _ h, in-range, knows m read e));
-            octets = t.left ∙ ap (λ (l : List ℕ). left_of (step_of kind l r).said (data_of l) b) (part m read e)
+            step = t.step ∙ ap (λ (l : List ℕ). step_of head.kind l r) (part m read e) ∙ sym (simp (le-ltb _ _ h, in-range, knows m read e));
+            octets = t.left ∙ ap (λ (l : List ℕ). left_of (step_of head.kind l r).said (data_of l) b) (part m read e)
                 ∙ sym (simp (le-ltb _ _ h, in-range, knows m read e));
           }
 
-      pub faulty : {fault : Fault} → head ≡ Refused fault → told got ≡ unchanged (says (fault_number fault) (fault_detail fault)) r → Answered m r b got b
+      pub faulty : {fault : Fault} → read_as ≡ Err fault → told got ≡ unchanged (says (fault_number fault) (fault_detail fault)) r → Answered m r b got b
       unfolding received_of buffer_of
       faulty {fault} e t =
           let in-range = ap not (sym tested) ∙ q in

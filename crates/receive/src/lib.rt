@@ -5,7 +5,6 @@ ghost use Rattle.std.specs.Prelude.{◌≡◌, ◌+◌, ◌≤◌, length};
 ghost use Rattle.endings.specs.Judge.{data_of};
 ghost use Rattle.receive.specs.Receive.{keeps, up_to, Taken, Answered};
 
-use heads::Head;
 use mframe::{BODY_MOST, CHECK, Kind};
 use outcomes::Received;
 use receiver_answers::{Answer, Refusal};
@@ -65,7 +64,7 @@ pub fn receive(mframe: &[u8], record: Record, buffer: &mut [u8]) -> Received
         };
     }
     match heads::head_of(mframe) {
-        Head::Known(kind, place) => take(kind, &mframe[place..], record, buffer),
-        Head::Refused(fault) => outcomes::refuse(fault, record),
+        Ok(head) => take(head.kind, &mframe[head.place..], record, buffer),
+        Err(fault) => outcomes::refuse(fault, record),
     }
 }

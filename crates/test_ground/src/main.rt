@@ -3,7 +3,7 @@
 #![tactic(auto)]
 
 use codes::{FragmentCount, FrameCount};
-use delimiters::{Delimiter, Fragment};
+use delimiters::Delimiter;
 use endings::Ending;
 use std::process::ExitCode;
 use test_questions::read::Question;
@@ -42,10 +42,10 @@ fn say_delimiter(rt: HostRuntime, d: Delimiter) {
     }
 }
 
-fn say_fragment(rt: HostRuntime, f: Fragment) {
-    match f {
-        Fragment::Known(n) => say::small(rt, n.0),
-        Fragment::Unknown => say::text(rt, b" none"),
+fn say_fragment(rt: HostRuntime, fragment: Option<FragmentCount>) {
+    match fragment {
+        Some(count) => say::small(rt, count.0),
+        None => say::text(rt, b" none"),
     }
 }
 

@@ -15,23 +15,23 @@ returns-then-not-in_range c = outside _ _ _ c.if-buffer-lt-BODY_MOST.false c.in_
 
 pub slice_bounds-take-count : goal.slice_bounds-take-count
 slice_bounds-take-count c =
-    let w = spacious c.args.mframe.now c.head_of.ensures c.in-Known.is in
+    let w = spacious c.args.mframe.now c.head_of.ensures c.in-Ok.is in
     omega arith
 
 pub slice_bounds-take-start : goal.slice_bounds-take-start
 slice_bounds-take-start c =
-    let w = spacious c.args.mframe.now c.head_of.ensures c.in-Known.is in
+    let w = spacious c.args.mframe.now c.head_of.ensures c.in-Ok.is in
     search rules
 
 pub take-requires : goal.take-requires
 take-requires c =
-    let w = roomy _ c.head_of.ensures c.in-Known.is in
+    let w = roomy _ c.head_of.ensures c.in-Ok.is in
     (omega arith, (omega arith, omega arith))
 
-pub returns-in-Known : goal.returns-in-Known
-returns-in-Known c =
-    answered _ _ _ c.if-buffer-lt-BODY_MOST.false c.in_range.ensures (ap not c.if-not-in_range.false) c.head_of.ensures c.in-Known.is c.take.ensures
+pub returns-in-Ok : goal.returns-in-Ok
+returns-in-Ok c =
+    answered _ _ _ c.if-buffer-lt-BODY_MOST.false c.in_range.ensures (ap not c.if-not-in_range.false) c.head_of.ensures c.in-Ok.is c.take.ensures
 
-pub returns-in-Refused : goal.returns-in-Refused
-returns-in-Refused c =
-    faulty _ _ _ c.if-buffer-lt-BODY_MOST.false c.in_range.ensures (ap not c.if-not-in_range.false) c.head_of.ensures c.in-Refused.is c.refuse.ensures
+pub returns-in-Err : goal.returns-in-Err
+returns-in-Err c =
+    faulty _ _ _ c.if-buffer-lt-BODY_MOST.false c.in_range.ensures (ap not c.if-not-in_range.false) c.head_of.ensures c.in-Err.is c.refuse.ensures
