@@ -12,7 +12,7 @@ pub const VERIFY: u8 = 0x07;
 pub const RESPOND: u8 = 0x19;
 
 // Counts frames sent with S, modulo 4. It is never compared with a fragment count, nor are they assigned to one another.
-#[derive(Clone, Copy)]
+#[derive(Clone, Copy, PartialEq, Eq)]
 pub struct FrameCount(pub u8);
 
 impl FrameCount {
@@ -53,7 +53,7 @@ impl FrameCount {
 }
 
 // Counts a frame's continuations, modulo 4, from 0 in the first.
-#[derive(Clone, Copy)]
+#[derive(Clone, Copy, PartialEq, Eq)]
 pub struct FragmentCount(pub u8);
 
 impl FragmentCount {
