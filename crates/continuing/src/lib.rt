@@ -26,13 +26,13 @@ struct Assembly {
 fn assembly_of(record: Record) -> Option<Assembly>
     ensures { Assembled «record» result }
 {
-    let open = Assembly {
+    let assembly = Assembly {
         frame: record.frame,
         fragment: record.fragment,
         kept: record.kept,
         running: record.running,
     };
-    record.assembling.then_some(open)
+    record.assembling.then_some(assembly)
 }
 
 // Test 23: each count against its like.
@@ -42,10 +42,11 @@ enum Counts {
     Other,
 }
 
-fn counts_of(open: Assembly, f: FrameCount, g: FragmentCount) -> Counts
-    ensures { other result ≡ not (eqb f.0 «open».frame.0 && eqb g.0 «open».fragment.0) }
+#[tactic(auto, using(rules::proofs::Tests::tests))]
+fn counts_of(assembly: Assembly, f: FrameCount, g: FragmentCount) -> Counts
+    ensures { other result ≡ not (eqb f.0 assembly.frame.0 && eqb g.0 assembly.fragment.0) }
 {
-    if f == open.frame && g == open.fragment {
+    if f == assembly.frame && g == assembly.fragment {
         Counts::Expected
     } else {
         Counts::Other
@@ -60,8 +61,8 @@ fn room_for(kept: usize, octets: usize) -> Option<usize>
     (total <= BODY_MOST).then_some(total)
 }
 
-// What good last octets say of the rest of the frame: none is left, or more is to come from this register on. It is a type of its own since test 25
-// answers an Option of it: in an Option of an Option one could not see which None says done and which damaged.
+// What good last octets leave of the frame: nothing, or more, from this register on.
+// No Option: test 25 answers an Option of it, and of two Nones one could not see which says done and which damaged.
 #[derive(Clone, Copy)]
 enum Rest {
     Done,
@@ -106,16 +107,16 @@ fn taken(total: usize, rest: Rest, record: Record) -> Received
 pub fn continuation(f: FrameCount, g: FragmentCount, octets: &[u8], record: Record) -> Received
     ensures { told result ≡ continuation_of f g octets.now «record» }
 {
-    let Some(open) = assembly_of(record) else {
+    let Some(assembly) = assembly_of(record) else {
         return outcomes::strayed(Answer::Dropped(Drop::Closed), record);
     };
-    let Counts::Expected = counts_of(open, f, g) else {
+    let Counts::Expected = counts_of(assembly, f, g) else {
         return outcomes::abandoned(Drop::Count, record);
     };
-    let Some(total) = room_for(open.kept, octets.len()) else {
+    let Some(total) = room_for(assembly.kept, octets.len()) else {
         return outcomes::abandoned(Drop::Over, record);
     };
-    let Some(rest) = check_of(endings::judge(open.running, octets)) else {
+    let Some(rest) = check_of(endings::judge(assembly.running, octets)) else {
         return outcomes::abandoned(Drop::Damaged, record);
     };
     taken(total, rest, record)
