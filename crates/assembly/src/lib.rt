@@ -21,11 +21,7 @@ fn express(ending: Ending, record: Record) -> Received
             answer: Answer::Express(n),
             after: record,
         },
-        Ending::More(_, _) => Received {
-            answer: Answer::Dropped(Drop::Express),
-            after: record,
-        },
-        Ending::Damaged => Received {
+        Ending::More(_, _) | Ending::Damaged => Received {
             answer: Answer::Dropped(Drop::Express),
             after: record,
         },
@@ -38,15 +34,11 @@ fn heard(answer: Answer, ending: Ending, record: Record) -> Received
     ensures { told result ≡ heard_of (said answer) ending «record» }
 {
     match ending {
-        Ending::Done(_) => Received {
-            answer: Answer::Dropped(Drop::Heard),
-            after: record,
-        },
         Ending::More(_, _) => Received {
             answer,
             after: record,
         },
-        Ending::Damaged => Received {
+        Ending::Done(_) | Ending::Damaged => Received {
             answer: Answer::Dropped(Drop::Heard),
             after: record,
         },

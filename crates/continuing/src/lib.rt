@@ -14,22 +14,25 @@ use outcomes::Received;
 use receiver_answers::{Answer, Drop};
 use receiver_record::Record;
 
-// Test 22: the assembly that a continuation goes on with.
+// Test 22: the assembly that a continuation goes on with, as the record has it.
 #[derive(Clone, Copy)]
-enum Assembly {
-    Open(FrameCount, FragmentCount, usize, u32),
-    Closed,
+struct Assembly {
+    frame: FrameCount,
+    fragment: FragmentCount,
+    kept: usize,
+    running: u32,
 }
 
-fn assembly_of(record: Record) -> Assembly
+fn assembly_of(record: Record) -> Option<Assembly>
     ensures { Assembled «record» result }
 {
-    let frame = record.frame;
-    let fragment = record.fragment;
-    if record.assembling {
-        return Assembly::Open(frame, fragment, record.kept, record.running);
-    }
-    Assembly::Closed
+    let assembly = Assembly {
+        frame: record.frame,
+        fragment: record.fragment,
+        kept: record.kept,
+        running: record.running,
+    };
+    record.assembling.then_some(assembly)
 }
 
 // Test 23: each count against its like.
@@ -39,62 +42,41 @@ enum Counts {
     Other,
 }
 
-fn counts_of(frame: FrameCount, fragment: FragmentCount, f: FrameCount, g: FragmentCount) -> Counts
-    ensures { other result ≡ not (eqb f.0 frame.0 && eqb g.0 fragment.0) }
+#[tactic(auto, using(rules::proofs::Tests::tests))]
+fn counts_of(assembly: Assembly, f: FrameCount, g: FragmentCount) -> Counts
+    ensures { other result ≡ not (eqb f.0 assembly.frame.0 && eqb g.0 assembly.fragment.0) }
 {
-    if f.0 == frame.0 {
-        if g.0 == fragment.0 {
-            return Counts::Expected;
-        }
-        return Counts::Other;
+    if f == assembly.frame && g == assembly.fragment {
+        Counts::Expected
+    } else {
+        Counts::Other
     }
-    Counts::Other
 }
 
-// Test 24: the octets kept and the data, so many in all. Neither side of the comparison can wrap.
-#[derive(Clone, Copy)]
-enum Room {
-    Enough(usize),
-    Over,
-}
-
-fn room_for(kept: usize, octets: usize) -> Room
+// Test 24: the octets kept and the data, so many in all, where there is room for them.
+fn room_for(kept: usize, octets: usize) -> Option<usize>
     ensures { Fits (kept + (octets - 4)) result }
 {
-    if BODY_MOST < kept {
-        return Room::Over;
-    }
-    if octets <= CHECK {
-        return Room::Enough(kept);
-    }
-    let n = octets - CHECK;
-    if BODY_MOST - kept < n {
-        return Room::Over;
-    }
-    Room::Enough(kept + n)
+    let total = kept.checked_add(octets.saturating_sub(CHECK))?;
+    (total <= BODY_MOST).then_some(total)
 }
 
-// Test 25: the last four octets, and what good ones say of the rest of the frame.
-#[derive(Clone, Copy)]
-enum Check {
-    Good(Rest),
-    Damaged,
-}
-
-// None is left, or more is to come from this register on.
+// What good last octets leave of the frame: nothing, or more, from this register on.
+// No Option: test 25 answers an Option of it, and of two Nones one could not see which says done and which damaged.
 #[derive(Clone, Copy)]
 enum Rest {
     Done,
     More(u32),
 }
 
-fn check_of(ending: Ending) -> Check
+// Test 25: the last four octets, unless they are damaged.
+fn check_of(ending: Ending) -> Option<Rest>
     ensures { result ≡ check_of ending }
 {
     match ending {
-        Ending::Done(_) => Check::Good(Rest::Done),
-        Ending::More(_, running) => Check::Good(Rest::More(running)),
-        Ending::Damaged => Check::Damaged,
+        Ending::Done(_) => Some(Rest::Done),
+        Ending::More(_, running) => Some(Rest::More(running)),
+        Ending::Damaged => None,
     }
 }
 
@@ -102,23 +84,20 @@ fn check_of(ending: Ending) -> Check
 fn taken(total: usize, rest: Rest, record: Record) -> Received
     ensures { told result ≡ taken_of total rest «record» }
 {
-    let counters = record.counters;
-    let frame = record.frame;
-    let fragment = record.fragment;
     match rest {
         Rest::Done => Received {
             answer: Answer::Delivered(total),
-            after: Record::shut(counters.completed()),
+            after: Record::shut(record.counters.completed()),
         },
         Rest::More(running) => Received {
             answer: Answer::Kept(total),
             after: Record {
                 assembling: true,
-                frame,
-                fragment: fragment.next(),
+                frame: record.frame,
+                fragment: record.fragment.next(),
                 kept: total,
                 running,
-                counters: counters.joined(),
+                counters: record.counters.joined(),
             },
         },
     }
@@ -128,16 +107,16 @@ fn taken(total: usize, rest: Rest, record: Record) -> Received
 pub fn continuation(f: FrameCount, g: FragmentCount, octets: &[u8], record: Record) -> Received
     ensures { told result ≡ continuation_of f g octets.now «record» }
 {
-    let Assembly::Open(frame, fragment, kept, running) = assembly_of(record) else {
+    let Some(assembly) = assembly_of(record) else {
         return outcomes::strayed(Answer::Dropped(Drop::Closed), record);
     };
-    let Counts::Expected = counts_of(frame, fragment, f, g) else {
+    let Counts::Expected = counts_of(assembly, f, g) else {
         return outcomes::abandoned(Drop::Count, record);
     };
-    let Room::Enough(total) = room_for(kept, octets.len()) else {
+    let Some(total) = room_for(assembly.kept, octets.len()) else {
         return outcomes::abandoned(Drop::Over, record);
     };
-    let Check::Good(rest) = check_of(endings::judge(running, octets)) else {
+    let Some(rest) = check_of(endings::judge(assembly.running, octets)) else {
         return outcomes::abandoned(Drop::Damaged, record);
     };
     taken(total, rest, record)

@@ -27,10 +27,8 @@ impl Counters {
         ensures { result ≡ erred n self }
     {
         Counters {
-            errors: std::num::wrapping_add_u32(self.errors, n),
-            delimiters: self.delimiters,
-            assembled: self.assembled,
-            fragments: self.fragments,
+            errors: self.errors.wrapping_add(n),
+            ..self
         }
     }
 
@@ -39,10 +37,8 @@ impl Counters {
         ensures { result ≡ strayed self }
     {
         Counters {
-            errors: self.errors,
-            delimiters: std::num::wrapping_add_u32(self.delimiters, 1),
-            assembled: self.assembled,
-            fragments: self.fragments,
+            delimiters: self.delimiters.wrapping_add(1),
+            ..self
         }
     }
 
@@ -51,10 +47,8 @@ impl Counters {
         ensures { result ≡ joined self }
     {
         Counters {
-            errors: self.errors,
-            delimiters: self.delimiters,
-            assembled: self.assembled,
-            fragments: std::num::wrapping_add_u32(self.fragments, 1),
+            fragments: self.fragments.wrapping_add(1),
+            ..self
         }
     }
 
@@ -63,10 +57,8 @@ impl Counters {
         ensures { result ≡ completed self }
     {
         Counters {
-            errors: self.errors,
-            delimiters: self.delimiters,
-            assembled: std::num::wrapping_add_u32(self.assembled, 1),
-            fragments: std::num::wrapping_add_u32(self.fragments, 1),
+            assembled: self.assembled.wrapping_add(1),
+            ..self.joined()
         }
     }
 }

@@ -22,11 +22,10 @@ pub struct Received {
 pub fn strayed(answer: Answer, record: Record) -> Received
     ensures { told result ≡ strays (said answer) «record» }
 {
-    let counters = record.counters;
     Received {
         answer,
         after: Record {
-            counters: counters.strayed(),
+            counters: record.counters.strayed(),
             ..record
         },
     }
@@ -36,10 +35,9 @@ pub fn strayed(answer: Answer, record: Record) -> Received
 pub fn abandoned(why: Drop, record: Record) -> Received
     ensures { told result ≡ abandoned (dropped why) «record» }
 {
-    let counters = record.counters;
     Received {
         answer: Answer::Dropped(why),
-        after: Record::shut(counters.erred(1)),
+        after: Record::shut(record.counters.erred(1)),
     }
 }
 
@@ -47,16 +45,11 @@ pub fn abandoned(why: Drop, record: Record) -> Received
 fn is_stray(why: Fault) -> bool
     ensures { result ≡ is_stray why }
 {
-    match why {
-        Fault::Short => false,
-        Fault::Long => false,
-        Fault::Preamble => false,
-        Fault::Delimiter(_) => true,
-        Fault::Fragment => true,
-    }
+    matches!(why, Fault::Delimiter(_) | Fault::Fragment)
 }
 
 // A refusal by the head changes nothing but the delimiter counter.
+#[tactic(auto, using(crate::proofs::Strays::stray_numbered))]
 pub fn refuse(why: Fault, record: Record) -> Received
     ensures { told result ≡ unchanged (refused (Head why)) «record» }
 {

@@ -1,16 +1,13 @@
 -- The promises of this crate, from what is known at each return of the code.
 -- Assumes nothing.
-use mathlib.Core.Path.{◌≡◌, sym, ap, ap₂, ◌∙◌}
-use mathlib.Core.Bool.{Bool, true, false, not, cond}
+use mathlib.Core.Path.{◌≡◌, sym, ap, ◌∙◌}
+use mathlib.Core.Bool.{Bool, true, false, not}
 use mathlib.Core.List.{List}
 use Prim.Native.Nat.{ℕ, ◌-◌, ◌≤◌, ◌<◌}
-use native.Mathlib.Nat.{sub-zero}
 use borrow.Author.Tests.{lt-ltb, le-ltb}
 use lib.ListN.{length, take, drop}
 use Rattle.std.specs.Prelude.{Result, Ok, Err}
-use Rattle.octets.specs.Laid.{laid}
 use Rattle.endings.specs.Judge.{data_of}
-use Rattle.endings.proofs.Endings.{data_length}
 use Rattle.faults.specs.Faults.{fault_number, fault_detail}
 use Rattle.heads.specs.Head.{reading, head_of}
 use Rattle.mframe.specs.declared.Kind.{Kind}
@@ -22,17 +19,12 @@ use Rattle.receiver_answers.specs.Answers.{Said, says, said}
 use Rattle.receiver_record.specs.Records.{in_range}
 use Rattle.outcomes.specs.Outcomes.{Step, told, unchanged}
 use Rattle.assembly.specs.Steps.{step_of}
-use Rattle.receive.specs.Receive.{received_of, up_to, writes, keeps, left_of, buffer_of, Answered, Taken}
+use Rattle.receive.specs.Receive.{received_of, writes, keeps, left_of, buffer_of, Answered, Taken}
 use Rattle.receive.proofs.Known.{knows, part}
 use Rattle.receive.proofs.Laws.{refused_writes, keeps_writes, step_within}
 
--- keep
-pub kept : (octets buffer : List ℕ) (end : ℕ) → laid buffer (end - (length octets - 4)) (take (length octets - 4 - 0) octets) ≡ up_to end (data_of octets) buffer
-kept octets buffer end =
-    ap₂ (λ (k : ℕ) (l : List ℕ). laid buffer (end - k) l) (sym (data_length octets)) (ap (λ (k : ℕ). take k octets) (sub-zero (length octets - 4)))
-
--- take
-module _ (kind : Kind) (octets : List ℕ) (r : Record) (b : List ℕ) (got : Received) {flag : Bool}
+-- take: data that are kept fit
+module _ (kind : Kind) (octets : List ℕ) (r : Record) (got : Received) {flag : Bool}
     (decided : told got ≡ step_of kind octets r) (tested : flag ≡ keeps got.answer) where
   is : said got.answer ≡ (step_of kind octets r).said
   is = ap (λ (t : Step). t.said) decided
@@ -40,19 +32,8 @@ module _ (kind : Kind) (octets : List ℕ) (r : Record) (b : List ℕ) (got : Re
   flag_is : flag ≡ writes (said got.answer).number
   flag_is = tested ∙ keeps_writes got.answer
 
-  left_is : (t : Bool) → flag ≡ t → cond t (up_to (said got.answer).detail (data_of octets) b) b ≡ left_of (step_of kind octets r).said (data_of octets) b
-  left_is t q =
-      ap (λ (x : Bool). cond x (up_to (said got.answer).detail (data_of octets) b) b) (sym q ∙ flag_is) ∙ ap (λ (x : Said). left_of x (data_of octets) b) is
-
-  pub idle : flag ≡ false → Taken kind octets r b got b
-  idle q = record { step = decided; left = left_is false q }
-
-  module _ {end : ℕ} (detailed : end ≡ (said got.answer).detail) (q : flag ≡ true) where
-    pub wrote : {b' : List ℕ} → b' ≡ up_to end (data_of octets) b → Taken kind octets r b got b'
-    wrote e = record { step = decided; left = e ∙ ap (λ (n : ℕ). up_to n (data_of octets) b) detailed ∙ left_is true q }
-
-    pub room : length octets ≤ 1522 → (length octets - 4 ≤ end) × (end ≤ 1518)
-    room h = rw (detailed, is) (step_within octets r kind h (ap (λ (t : Said). writes t.number) (sym is) ∙ sym flag_is ∙ q))
+  pub room : {end : ℕ} → end ≡ (said got.answer).detail → flag ≡ true → length octets ≤ 1522 → (length octets - 4 ≤ end) × (end ≤ 1518)
+  room detailed q h = rw (detailed, is) (step_within octets r kind h (ap (λ (t : Said). writes t.number) (sym is) ∙ sym flag_is ∙ q))
 
 -- receive
 module _ (m : List ℕ) (r : Record) (b : List ℕ) {got : Received} where

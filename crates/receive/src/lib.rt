@@ -14,15 +14,7 @@ use receiver_record::Record;
 fn keeps(answer: Answer) -> bool
     ensures { result ≡ keeps answer }
 {
-    match answer {
-        Answer::Express(_) => false,
-        Answer::Delivered(_) => true,
-        Answer::Kept(_) => true,
-        Answer::VerifyHeard => false,
-        Answer::RespondHeard => false,
-        Answer::Refused(_) => false,
-        Answer::Dropped(_) => false,
-    }
+    matches!(answer, Answer::Delivered(_) | Answer::Kept(_))
 }
 
 // The data of an mFrame's octets, laid so that they end at a place.

@@ -12,7 +12,7 @@ use Rattle.receiver_answers.specs.declared.Drop.{Drop}
 use Rattle.receiver_answers.specs.declared.Drop.TheVariants as D
 use Rattle.receiver_answers.specs.declared.Answer.{Answer}
 use Rattle.receiver_answers.specs.declared.Answer.TheVariants as A
-use Rattle.receiver_answers.specs.Answers.{Said, said}
+use Rattle.receiver_answers.specs.Answers.{Said, said, refusal_number, refused}
 
 -- the answer, from what it is told as
 refusal : ℕ → ℕ → Refusal
@@ -55,6 +55,17 @@ back (A.Dropped D.Damaged) = refl
 
 pub said_one : {a b : Answer} → said a ≡ said b → a ≡ b
 said_one {a} {b} e = sym (back a) ∙ ap unsaid e ∙ back b
+
+-- a refusal, by its number and detail
+pub refused_one : {a b : Refusal} → refused a ≡ refused b → a ≡ b
+refused_one {a} {b} e = ap why (said_one {a = A.Refused a} {b = A.Refused b} e)
+  where
+    why : Answer → Refusal
+    why (A.Refused w) = w
+    why _ = Buffer
+
+pub refusal_number_once : (why : Refusal) {x y : ℕ} → x ≡ refusal_number why → y ≡ refusal_number why → x ≡ y
+refusal_number_once why p q = p ∙ sym q
 
 -- number and detail
 pub number_once : (a : Answer) {x y : ℕ} → x ≡ (said a).number → y ≡ (said a).number → x ≡ y

@@ -38,7 +38,7 @@ pub enum Answer {
 }
 
 impl Refusal {
-    fn number(self) -> u32
+    pub fn number(self) -> u32
         ensures { result ≡ refusal_number self }
     {
         match self {
@@ -52,8 +52,7 @@ impl Refusal {
         ensures { result ≡ refusal_detail self }
     {
         match self {
-            Refusal::Buffer => 0,
-            Refusal::Record => 0,
+            Refusal::Buffer | Refusal::Record => 0,
             Refusal::Head(fault) => fault.detail(),
         }
     }
@@ -94,13 +93,9 @@ impl Answer {
         ensures { result ≡ (said self).detail }
     {
         match self {
-            Answer::Express(n) => n,
-            Answer::Delivered(n) => n,
-            Answer::Kept(n) => n,
-            Answer::VerifyHeard => 0,
-            Answer::RespondHeard => 0,
+            Answer::Express(n) | Answer::Delivered(n) | Answer::Kept(n) => n,
             Answer::Refused(why) => why.detail(),
-            Answer::Dropped(_) => 0,
+            Answer::VerifyHeard | Answer::RespondHeard | Answer::Dropped(_) => 0,
         }
     }
 }

@@ -46,32 +46,15 @@ impl Record {
     pub fn in_range(self) -> bool
         ensures { result ≡ in_range self }
     {
-        let frame = self.frame;
-        let fragment = self.fragment;
-        let f = frame.0;
-        let g = fragment.0;
-        let kept = self.kept;
         if self.assembling {
-            if 3 < f {
-                return false;
-            }
-            if 3 < g {
-                return false;
-            }
-            if kept < BODY_LEAST {
-                return false;
-            }
-            return kept <= BODY_MOST;
+            self.frame.0 <= 3
+                && self.fragment.0 <= 3
+                && (BODY_LEAST..=BODY_MOST).contains(&self.kept)
+        } else {
+            self.frame == FrameCount::ZERO
+                && self.fragment == FragmentCount::ZERO
+                && self.kept == 0
+                && self.running == 0
         }
-        if f != 0 {
-            return false;
-        }
-        if g != 0 {
-            return false;
-        }
-        if kept != 0 {
-            return false;
-        }
-        self.running == 0
     }
 }

@@ -17,7 +17,7 @@ use Rattle.receiver_answers.specs.Answers.{says}
 use Rattle.outcomes.specs.Outcomes.{Step}
 use Rattle.receiver_words.specs.Receiver.{receiver_words, receiver_fits, receiver_of}
 use Rattle.receiver_words.proofs.Laws.{receiver_written}
-use Rattle.stream.specs.declared.Given.TheVariants.{End}
+use Rattle.std.specs.Prelude.{None}
 use Rattle.stream.specs.Stream.{most, unsound, heard, runs_over, Turn, stream_of}
 use Rattle.stream.proofs.Laws.{long_received, long_buffer}
 use Rattle.stream.proofs.Heard.{over-long, kept-alike}
@@ -104,12 +104,12 @@ pub record Same (e : Ending) (t : Turn) : Type 0 where
   pub buffer : e.received.buffer ≡ t.buffer
 
 pub end_streamed : (n f : ℕ) (area w b : List ℕ) → f ≤ 1 → length w ≡ 9 → receiver_fits w ≡ true
-    → Same (end_of (n ∷ f ∷ []) area w b) (stream_of End (state_of (n ∷ f ∷ [])) area (receiver_of w) b)
+    → Same (end_of (n ∷ f ∷ []) area w b) (stream_of None (state_of (n ∷ f ∷ [])) area (receiver_of w) b)
 unfolding end_of refusal_of stream_of receiving_of
 end_streamed n f area w b h nine fits = by (ltb (length area) most) (unsound (state_of (n ∷ f ∷ []))) refl refl
   where
     by : (short bad : Bool) → ltb (length area) most ≡ short → unsound (state_of (n ∷ f ∷ [])) ≡ bad
-        → Same (end_of (n ∷ f ∷ []) area w b) (stream_of End (state_of (n ∷ f ∷ [])) area (receiver_of w) b)
+        → Same (end_of (n ∷ f ∷ []) area w b) (stream_of None (state_of (n ∷ f ∷ [])) area (receiver_of w) b)
     by true bad p q =
         simp p (record { number = refl; detail = refl; state = sym (state_written n f h); after = sym (written w nine fits); buffer = refl })
     by false true p q =

@@ -3,6 +3,7 @@ ghost use Rattle.std.specs.Prelude.{◌≡◌};
 ghost use Rattle.seatport.specs.Receiving.{receiving_of, Received, part_of};
 
 use mframe::BODY_MOST;
+use receiver_answers::Refusal;
 
 #[unsafe(no_mangle)]
 pub extern "C" fn seatport_receive(
@@ -26,9 +27,9 @@ pub extern "C" fn seatport_receive(
     }
     *detail = 0;
     if buffer.len() < BODY_MOST {
-        return 10;
+        return Refusal::Buffer.number();
     }
-    11
+    Refusal::Record.number()
 }
 
 #[unsafe(no_mangle)]

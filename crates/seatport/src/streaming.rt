@@ -8,7 +8,7 @@ use crate::receiving::seatport_receive;
 pub extern "C" fn seatport_octet(stream: &mut [u32; 2], area: &mut [u8], octet: u8) -> u32
     ensures { Octet (octet_of stream.old area.old octet) result stream.new area.new }
 {
-    stream_words::octet(stream, area, octet)
+    stream_words::number_of(stream_words::octet(stream, area, octet))
 }
 
 #[unsafe(no_mangle)]
@@ -22,16 +22,15 @@ pub extern "C" fn seatport_end(
     ensures { Ended (end_of stream.old area.now receiver.old buffer.old) result stream.new detail.new receiver.new buffer.new }
 {
     let words = *stream;
-    let refusal = stream_words::refusal(words, area.len());
     *detail = 0;
-    if refusal != 0 {
-        return refusal;
+    if let Err(refusal) = stream_words::refusal(words, area.len()) {
+        return refusal.number();
     }
     *stream = [0, 0];
     let count = words::wide(words[0]);
     let kept = &area[0..count];
     if stream::runs_over(words[1] == 1, kept) {
-        return stream_words::too_long(*receiver, buffer.len());
+        return stream_words::too_long(*receiver, buffer.len()).number();
     }
     seatport_receive(receiver, kept, buffer, detail)
 }

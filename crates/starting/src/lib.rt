@@ -3,7 +3,7 @@
 
 ghost use Rattle.std.specs.Prelude.{◌≡◌};
 ghost use Rattle.outcomes.specs.Outcomes.{told};
-ghost use Rattle.starting.specs.Starting.{one, start_of};
+ghost use Rattle.starting.specs.Starting.{start_of};
 
 use codes::{FragmentCount, FrameCount};
 use endings::Ending;
@@ -11,23 +11,15 @@ use outcomes::Received;
 use receiver_answers::{Answer, Drop};
 use receiver_record::Record;
 
-// One for an assembly that is open.
-fn one(assembling: bool) -> u32
-    ensures { result ≡ one assembling }
-{
-    if assembling { 1 } else { 0 }
-}
-
 // A start opens a fresh assembly; one still open is abandoned first.
 pub fn start(frame: FrameCount, ending: Ending, record: Record) -> Received
     ensures { told result ≡ start_of frame ending «record» }
 {
-    let lost = one(record.assembling);
-    let counters = record.counters;
+    let lost = u32::from(record.assembling);
     match ending {
         Ending::Done(n) => Received {
             answer: Answer::Delivered(n),
-            after: Record::shut(counters.erred(lost)),
+            after: Record::shut(record.counters.erred(lost)),
         },
         Ending::More(n, running) => Received {
             answer: Answer::Kept(n),
@@ -37,12 +29,12 @@ pub fn start(frame: FrameCount, ending: Ending, record: Record) -> Received
                 fragment: FragmentCount::ZERO,
                 kept: n,
                 running,
-                counters: counters.erred(lost),
+                counters: record.counters.erred(lost),
             },
         },
         Ending::Damaged => Received {
             answer: Answer::Dropped(Drop::Damaged),
-            after: Record::shut(counters.erred(lost + 1)),
+            after: Record::shut(record.counters.erred(lost + 1)),
         },
     }
 }

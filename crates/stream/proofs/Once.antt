@@ -12,8 +12,8 @@ use Rattle.rules.proofs.Tests.{never}
 use Rattle.stream.specs.declared.State.{State}
 use Rattle.stream.specs.declared.Refusal.{Refusal}
 use Rattle.stream.specs.declared.Refusal.TheVariants as R
-use Rattle.stream.specs.declared.Reply.{Reply}
-use Rattle.stream.specs.declared.Reply.TheVariants.{Waits, Refused, Answered}
+use Rattle.std.specs.Prelude.{Option, Some, None, Result, Ok, Err}
+use Rattle.receiver_answers.specs.declared.Answer.{Answer}
 use Rattle.stream.specs.declared.Streamed.{Streamed}
 use Rattle.stream.specs.Stream.{number, unsound, runs_over, counted, stored, Saying, waits, refuses, answers, saying, Turn, Streams}
 
@@ -55,18 +55,18 @@ answering waits = says 0 0
 answering (refuses n) = says 1 0
 answering (answers s) = s
 
-saying_one : (x y : Reply) → saying x ≡ saying y → x ≡ y
-saying_one Waits Waits e = refl
-saying_one Waits (Refused w) e = never (ap speaks e)
-saying_one Waits (Answered b) e = never (ap speaks e)
-saying_one (Refused v) Waits e = never (ap speaks (sym e))
-saying_one (Refused v) (Refused w) e = ap Refused (sym (refusal_back v) ∙ ap refusal_of (ap refusing e) ∙ refusal_back w)
-saying_one (Refused R.Area) (Answered b) e = absurd (let n : 18 ≡ 0 = ap refusing e in let y : ⊥ = omega arith in y)
-saying_one (Refused R.State) (Answered b) e = absurd (let n : 19 ≡ 0 = ap refusing e in let y : ⊥ = omega arith in y)
-saying_one (Answered a) Waits e = never (ap speaks (sym e))
-saying_one (Answered a) (Refused R.Area) e = absurd (let n : 0 ≡ 18 = ap refusing e in let y : ⊥ = omega arith in y)
-saying_one (Answered a) (Refused R.State) e = absurd (let n : 0 ≡ 19 = ap refusing e in let y : ⊥ = omega arith in y)
-saying_one (Answered a) (Answered b) e = ap Answered (said_one (ap answering e))
+saying_one : (x y : Result (Option Answer) Refusal) → saying x ≡ saying y → x ≡ y
+saying_one (Ok None) (Ok None) e = refl
+saying_one (Ok None) (Err w) e = never (ap speaks e)
+saying_one (Ok None) (Ok (Some b)) e = never (ap speaks e)
+saying_one (Err v) (Ok None) e = never (ap speaks (sym e))
+saying_one (Err v) (Err w) e = ap Err (sym (refusal_back v) ∙ ap refusal_of (ap refusing e) ∙ refusal_back w)
+saying_one (Err R.Area) (Ok (Some b)) e = absurd (let n : 18 ≡ 0 = ap refusing e in let y : ⊥ = omega arith in y)
+saying_one (Err R.State) (Ok (Some b)) e = absurd (let n : 19 ≡ 0 = ap refusing e in let y : ⊥ = omega arith in y)
+saying_one (Ok (Some a)) (Ok None) e = never (ap speaks (sym e))
+saying_one (Ok (Some a)) (Err R.Area) e = absurd (let n : 0 ≡ 18 = ap refusing e in let y : ⊥ = omega arith in y)
+saying_one (Ok (Some a)) (Err R.State) e = absurd (let n : 0 ≡ 19 = ap refusing e in let y : ⊥ = omega arith in y)
+saying_one (Ok (Some a)) (Ok (Some b)) e = ap (λ (x : Answer). Ok (Some x)) (said_one (ap answering e))
 
 -- runs_over
 pub runs_over_once : (more : Bool) (kept : List ℕ) {x y : Bool} → x ≡ runs_over more kept → y ≡ runs_over more kept → x ≡ y

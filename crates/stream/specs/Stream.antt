@@ -1,19 +1,16 @@
 -- The second receiver (document 02, (iv)): what it replies to an octet and to the end of an mFrame, and what becomes of its state, of the area, of
 -- the first receiver's record and of the assembly buffer. Assumes nothing.
-use Rattle.std.specs.Prelude.{◌≡◌, Bool, true, false, cond, ◌&&◌, ◌||◌, List, [], ◌∷◌, ◌++◌, ℕ, ◌+◌, ltb, length, take}
+use Rattle.std.specs.Prelude.{◌≡◌, Bool, true, false, cond, ◌&&◌, ◌||◌, List, [], ◌∷◌, ◌++◌, ℕ, ◌+◌, ltb, length, take, Option, Some, None, Result, Ok, Err}
 use Rattle.octets.specs.Laid.{laid}
 use Rattle.heads.specs.Head.{head_of, is_known}
+use Rattle.receiver_answers.specs.declared.Answer.{Answer}
 use Rattle.receiver_answers.specs.Answers.{Said, says, said}
 use Rattle.receiver_record.specs.declared.Record.{Record}
 use Rattle.receiver_record.specs.Records.{in_range}
 use Rattle.receive.specs.Receive.{received_of, buffer_of}
-use Rattle.stream.specs.declared.Given.{Given}
-use Rattle.stream.specs.declared.Given.TheVariants.{Octet, End}
 use Rattle.stream.specs.declared.State.{State}
 use Rattle.stream.specs.declared.Refusal.{Refusal}
 use Rattle.stream.specs.declared.Refusal.TheVariants as R
-use Rattle.stream.specs.declared.Reply.{Reply}
-use Rattle.stream.specs.declared.Reply.TheVariants.{Waits, Refused, Answered}
 use Rattle.stream.specs.declared.Streamed.{Streamed}
 
 -- "a lent area of 1,530 octets"; "beyond 1,530 it counts no octet"; since (vi) a continuation "may .. have 1,531 octets, the new area and limit"
@@ -59,10 +56,10 @@ pub data Saying : Type 0 where
   refuses : ℕ → Saying
   answers : Said → Saying
 
-abbrev pub saying : Reply → Saying
-saying Waits = waits
-saying (Refused why) = refuses (number why)
-saying (Answered answer) = answers (said answer)
+abbrev pub saying : Result (Option Answer) Refusal → Saying
+saying (Ok None) = waits
+saying (Err why) = refuses (number why)
+saying (Ok (Some answer)) = answers (said answer)
 
 -- what comes of a call: the reply, the state, the area, the record and the assembly buffer
 pub record Turn : Type 0 where
@@ -88,12 +85,12 @@ ended_by m area r b =
     }
 
 -- "up to an end it answers only that it waits"
-abbrev pub turn_of : Given → State → List ℕ → Record → List ℕ → Turn
-turn_of (Octet x) s area r b = record { reply = waits; state = counted s; area = stored x s area; after = r; buffer = b }
-turn_of End s area r b = ended_by (heard s area) area r b
+abbrev pub turn_of : Option ℕ → State → List ℕ → Record → List ℕ → Turn
+turn_of (Some x) s area r b = record { reply = waits; state = counted s; area = stored x s area; after = r; buffer = b }
+turn_of None s area r b = ended_by (heard s area) area r b
 
 -- the refusals come "at every call and before all others"
-unfoldable pub stream_of : Given → State → List ℕ → Record → List ℕ → Turn
+unfoldable pub stream_of : Option ℕ → State → List ℕ → Record → List ℕ → Turn
 stream_of g s area r b =
     cond (ltb (length area) most) (refused_by 18 s area r b) (cond (unsound s) (refused_by 19 s area r b) (turn_of g s area r b))
 

@@ -14,13 +14,6 @@ use receiver_record::Record;
 // The most octets that are kept of an mFrame, and the least area.
 pub const MOST: u32 = 1531;
 
-// What the receiver is given.
-#[derive(Clone, Copy)]
-pub enum Given {
-    Octet(u8),
-    End,
-}
-
 // What the caller keeps between calls, beside the area: how many octets at its front came since the last end, and whether there were more. The
 // count is a u32, since a machine of 32 bits has it in one register.
 #[derive(Clone, Copy)]
@@ -36,13 +29,8 @@ pub enum Refusal {
     State,
 }
 
-// What a call answers: that it waits, a refusal of its own, or what the first receiver answers.
-#[derive(Clone, Copy)]
-pub enum Reply {
-    Waits,
-    Refused(Refusal),
-    Answered(Answer),
-}
+// What a call answers: a refusal of its own; else nothing while it waits for more octets, and at the end what the first receiver answers.
+pub type Reply = Result<Option<Answer>, Refusal>;
 
 // The reply, and what is to be kept: the state, and the first receiver's record.
 #[derive(Clone, Copy)]
@@ -71,20 +59,16 @@ impl State {
     };
 
     // Test 19.
+    #[tactic(auto, using(rules::proofs::Tests::tests))]
     pub fn is_unsound(self) -> bool
         ensures { result ≡ unsound self }
     {
-        if MOST < self.count {
-            return true;
-        }
-        if self.more {
-            return self.count < MOST;
-        }
-        false
+        MOST < self.count || self.more && self.count < MOST
     }
 }
 
 // An octet: kept behind those before it where there is room, else only remembered.
+#[tactic(auto, using(rules::proofs::Tests::tests))]
 fn keep(octet: u8, state: State, area: &mut [u8]) -> State
     requires { most ≤ length area.old }
     ensures { (result ≡ counted state) × (area.new ≡ stored octet state area.old) }
@@ -93,53 +77,52 @@ fn keep(octet: u8, state: State, area: &mut [u8]) -> State
         area[state.count as usize] = octet;
         return State {
             count: state.count + 1,
-            more: state.more,
+            ..state
         };
     }
     State {
-        count: state.count,
         more: true,
+        ..state
     }
 }
 
-// One octet, or the end of the mFrame.
+// One octet, or the end of the mFrame where there is none.
+#[tactic(auto, using(rules::proofs::Tests::tests), unfolding(crate::specs::Stream::stream_of))]
 pub fn stream(
-    given: Given,
+    octet: Option<u8>,
     state: State,
     area: &mut [u8],
     record: Record,
     buffer: &mut [u8],
 ) -> Streamed
-    ensures { Streams (stream_of given state area.old «record» buffer.old) result area.new buffer.new }
+    ensures { Streams (stream_of octet state area.old «record» buffer.old) result area.new buffer.new }
 {
     if area.len() < MOST as usize {
         return Streamed {
-            reply: Reply::Refused(Refusal::Area),
+            reply: Err(Refusal::Area),
             state,
             after: record,
         };
     }
     if state.is_unsound() {
         return Streamed {
-            reply: Reply::Refused(Refusal::State),
+            reply: Err(Refusal::State),
             state,
             after: record,
         };
     }
-    match given {
-        Given::Octet(octet) => Streamed {
-            reply: Reply::Waits,
+    match octet {
+        Some(octet) => Streamed {
+            reply: Ok(None),
             state: keep(octet, state, area),
             after: record,
         },
-        Given::End => {
+        None => {
             let got = ending::end(state, area, record, buffer);
-            let answer = got.answer;
-            let after = got.after;
             Streamed {
-                reply: Reply::Answered(answer),
+                reply: Ok(Some(got.answer)),
                 state: State::EMPTY,
-                after,
+                after: got.after,
             }
         }
     }

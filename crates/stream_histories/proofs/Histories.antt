@@ -8,16 +8,15 @@ use lib.Seq.{append_snoc}
 use Rattle.receiver_record.specs.declared.Record.{Record}
 use Rattle.receive.specs.Receive.{received_of, buffer_of}
 use Rattle.receive_histories.specs.History.{record_after, buffer_after}
-use Rattle.stream.specs.declared.Given.{Given}
-use Rattle.stream.specs.declared.Given.TheVariants.{Octet, End}
+use Rattle.std.specs.Prelude.{Option, Some, None}
 use Rattle.stream.specs.Stream.{most, stored, Saying, waits, answers, ended_by, Turn, stream_of}
 use Rattle.stream_histories.specs.Streaming.{next, left_by, replies, begun, octets, runs, since, answers_to, at_ends, state_after, Holds}
 use Rattle.stream_histories.proofs.Turns.{turn, Keeps, stored-length, keeps-octet, next-octet, next-end}
 
-go : (gs : List Given) (m area : List ℕ) (p : Saying) (r : Record) (b : List ℕ) → Keeps m area → Holds gs m (turn p (state_after m) area r b)
+go : (gs : List (Option ℕ)) (m area : List ℕ) (p : Saying) (r : Record) (b : List ℕ) → Keeps m area → Holds gs m (turn p (state_after m) area r b)
 unfolding replies left_by runs since answers_to at_ends record_after buffer_after
 go [] m area p r b k = record { answered = refl; after = refl; buffer = refl; state = refl; kept = k.kept; room = refl }
-go (Octet x ∷ gs) m area p r b k =
+go (Some x ∷ gs) m area p r b k =
     let e = next-octet m x area k p r b in
     let h = go gs (m ++ x ∷ []) (stored x (state_after m) area) waits r b (keeps-octet m x area k) in
     record {
@@ -28,7 +27,7 @@ go (Octet x ∷ gs) m area p r b k =
       kept = ap (λ (t : Turn). take (length (take most (since (m ++ x ∷ []) gs))) (left_by gs t).area) e ∙ h.kept;
       room = ap (λ (t : Turn). length (left_by gs t).area) e ∙ h.room ∙ stored-length m x area k;
     }
-go (End ∷ gs) m area p r b k =
+go (None ∷ gs) m area p r b k =
     let e = next-end m area k p r b in
     let a = answers (received_of m r (length b)).said in
     let h = go gs [] area a (received_of m r (length b)).after (buffer_of m r b) (record { roomy = k.roomy; kept = refl }) in
@@ -42,19 +41,19 @@ go (End ∷ gs) m area p r b k =
     }
 
 -- from an empty state, with an area of 1,531 octets or more, any record and any buffer
-pub histories : (gs : List Given) (area : List ℕ) (r : Record) (b : List ℕ) → most ≤ length area → Holds gs [] (begun area r b)
+pub histories : (gs : List (Option ℕ)) (area : List ℕ) (r : Record) (b : List ℕ) → most ≤ length area → Holds gs [] (begun area r b)
 histories gs area r b roomy = go gs [] area waits r b (record { roomy = roomy; kept = refl })
 
 -- a run by itself: octets look at neither record nor buffer, so its end may come with others, as left meanwhile by another run with its own state and area
 end_alone : (xs m area : List ℕ) (p : Saying) (r r' : Record) (b b' : List ℕ) → Keeps m area
-    → let t = left_by (octets xs) (turn p (state_after m) area r b) in next End (turn p t.state t.area r' b') ≡ ended_by (m ++ xs) t.area r' b'
+    → let t = left_by (octets xs) (turn p (state_after m) area r b) in next None (turn p t.state t.area r' b') ≡ ended_by (m ++ xs) t.area r' b'
 unfolding left_by octets
 end_alone [] m area p r r' b b' k = next-end m area k p r' b' ∙ ap (λ (l : List ℕ). ended_by l area r' b') (sym (append-nil m))
 end_alone (x ∷ xs) m area p r r' b b' k =
     let h = end_alone xs (m ++ x ∷ []) (stored x (state_after m) area) waits r r' b b' (keeps-octet m x area k) in
-    subst (λ (t : Turn). next End (turn p (left_by (octets xs) t).state (left_by (octets xs) t).area r' b') ≡ ended_by (m ++ x ∷ xs) (left_by (octets xs) t).area r' b')
+    subst (λ (t : Turn). next None (turn p (left_by (octets xs) t).state (left_by (octets xs) t).area r' b') ≡ ended_by (m ++ x ∷ xs) (left_by (octets xs) t).area r' b')
     (sym (next-octet m x area k p r b)) (rw (← append_snoc m x xs) h)
 
 pub alone : (xs area : List ℕ) (r r' : Record) (b b' : List ℕ) → most ≤ length area
-    → let t = left_by (octets xs) (begun area r b) in stream_of End t.state t.area r' b' ≡ ended_by xs t.area r' b'
+    → let t = left_by (octets xs) (begun area r b) in stream_of None t.state t.area r' b' ≡ ended_by xs t.area r' b'
 alone xs area r r' b b' roomy = end_alone xs [] area waits r r' b b' (record { roomy = roomy; kept = refl })

@@ -13,7 +13,7 @@ use Rattle.octets.specs.Laid.{laid}
 use Rattle.octets.proofs.Laid.{length_laid}
 use Rattle.receiver_record.specs.declared.Record.{Record}
 use Rattle.outcomes.specs.Outcomes.{Step}
-use Rattle.stream.specs.declared.Given.TheVariants.{Octet, End}
+use Rattle.std.specs.Prelude.{Some, None}
 use Rattle.stream.specs.declared.State.{State}
 use Rattle.stream.specs.Stream.{most, unsound, counted, stored, empty, heard, ended_by, Saying, waits, answers, Turn, stream_of}
 use Rattle.stream.proofs.Laws.{suffice_received, suffice_buffer}
@@ -114,7 +114,7 @@ module _ (m : List ℕ) where
               simp full (keeps-full h)
 
       pub next-octet : (p : Saying) (r : Record) (b : List ℕ)
-          → next (Octet x) (turn p (state_after m) area r b) ≡ turn waits (state_after (m ++ x ∷ [])) (stored x (state_after m) area) r b
+          → next (Some x) (turn p (state_after m) area r b) ≡ turn waits (state_after (m ++ x ∷ [])) (stored x (state_after m) area) r b
       unfolding stream_of
       next-octet p r b =
           simp (le-ltb (length area) most k.roomy, sound) (ap (λ (s : State). turn waits s (stored x (state_after m) area) r b) counted_is)
@@ -148,7 +148,7 @@ module _ (m : List ℕ) where
             ∙ lt-ltb most (length (take most m ++ 0 ∷ [])) (omega (arith, h, n, length-take most m)) ∙ sym e
         go false e = ap (λ (l : List ℕ). ltb most (length l)) (whole e)
 
-    pub next-end : (p : Saying) (r : Record) (b : List ℕ) → next End (turn p (state_after m) area r b) ≡ ended_by m area r b
+    pub next-end : (p : Saying) (r : Record) (b : List ℕ) → next None (turn p (state_after m) area r b) ≡ ended_by m area r b
     unfolding stream_of
     next-end p r b =
         simp (le-ltb (length area) most k.roomy, sound)

@@ -9,7 +9,7 @@ use borrow.Author.Tests.{le-ltb, ltb-false}
 use lib.Dec.{eqb, ltb}
 use lib.ListN.{length}
 use Rattle.receiver_record.specs.declared.Record.{Record}
-use Rattle.stream.specs.declared.Given.TheVariants.{Octet}
+use Rattle.std.specs.Prelude.{Some}
 use Rattle.stream.specs.declared.State.{State}
 use Rattle.stream.specs.Stream.{most, unsound, counted, Saying, waits, refuses, answers, Turn, stream_of}
 use Rattle.words.specs.Words.{word}
@@ -64,12 +64,12 @@ pub record Same (k : Keeping) (t : Turn) : Type 0 where
   pub area : k.area ≡ t.area
 
 pub octet_streamed : (n f : ℕ) (area : List ℕ) (x : ℕ) (r : Record) (b : List ℕ) → f ≤ 1
-    → Same (octet_of (n ∷ f ∷ []) area x) (stream_of (Octet x) (state_of (n ∷ f ∷ [])) area r b)
+    → Same (octet_of (n ∷ f ∷ []) area x) (stream_of (Some x) (state_of (n ∷ f ∷ [])) area r b)
 unfolding octet_of refusal_of stream_of
 octet_streamed n f area x r b h = by (ltb (length area) most) (unsound (state_of (n ∷ f ∷ []))) refl refl
   where
     by : (short bad : Bool) → ltb (length area) most ≡ short → unsound (state_of (n ∷ f ∷ [])) ≡ bad
-        → Same (octet_of (n ∷ f ∷ []) area x) (stream_of (Octet x) (state_of (n ∷ f ∷ [])) area r b)
+        → Same (octet_of (n ∷ f ∷ []) area x) (stream_of (Some x) (state_of (n ∷ f ∷ [])) area r b)
     by true bad p q = simp p (record { number = refl; state = sym (state_written n f h); area = refl })
     by false true p q = simp (p, q, le-ltb 1 f h) (record { number = refl; state = sym (state_written n f h); area = refl })
     by false false p q = simp (p, q, le-ltb 1 f h) (record { number = refl; state = counted_written n f h; area = refl })

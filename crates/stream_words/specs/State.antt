@@ -1,11 +1,12 @@
 -- The second receiver's state, which C calls a stream, as words of 32 bits: the refusals that come before all others, what becomes of an octet, and
 -- the answer to an mFrame that is too long, by the words of the first receiver's record.
 -- Assumes nothing.
-use Rattle.std.specs.Prelude.{◌≡◌, cond, ◌&&◌, ◌||◌, List, [], ◌∷◌, ℕ, ◌+◌, eqb, ltb, length, set}
+use Rattle.std.specs.Prelude.{◌≡◌, cond, ◌&&◌, ◌||◌, List, [], ◌∷◌, ℕ, ◌+◌, eqb, ltb, length, set, Result, Ok, Err}
 use Rattle.receiver_record.specs.Records.{in_range}
 use Rattle.receiver_words.specs.Receiver.{receiver_fits, receiver_of}
 use Rattle.stream.specs.declared.State.{State}
-use Rattle.stream.specs.Stream.{most, unsound, stored}
+use Rattle.stream.specs.declared.Refusal.{Refusal}
+use Rattle.stream.specs.Stream.{most, number, unsound, stored}
 use Rattle.words.specs.Words.{flag, word, flag_at}
 
 -- the state in two words, and the state that two words are
@@ -14,6 +15,11 @@ state_words s = s.count ∷ flag s.more ∷ []
 
 abbrev pub state_of : List ℕ → State
 state_of w = record { count = word w 0; more = flag_at w 1 }
+
+-- the number of a refusal, 0 where there is none
+abbrev pub told : {T : Type 0} → Result T Refusal → ℕ
+told (Ok x) = 0
+told (Err why) = number why
 
 -- 18 for an area of so many octets, then 19, which words that are no state's get too, else 0
 unfoldable pub refusal_of : List ℕ → ℕ → ℕ

@@ -2,9 +2,12 @@
 #![tactic(auto)]
 
 ghost use Rattle.std.specs.Prelude.{◌≡◌, length};
-ghost use Rattle.stream_words.specs.State.{state_of, refusal_of, octet_of, Octet, too_long};
+ghost use Rattle.receiver_answers.specs.Answers.{refused, says};
+ghost use Rattle.stream_words.specs.State.{state_of, told, refusal_of, octet_of, Octet, too_long};
 
+use faults::Fault;
 use mframe::BODY_MOST;
+use receiver_answers::Refusal as First;
 use stream::{MOST, Refusal, State};
 
 // The state that two words are, where the second is a flag.
@@ -17,62 +20,72 @@ pub fn state_of(words: [u32; 2]) -> State
     }
 }
 
-// 18 by the area's length, 19 by the words, or 0.
+// Tests 18, by the area's length, and 19, by the words.
 #[tactic(auto, using(rules::proofs::Tests::tests), unfolding(crate::specs::State::refusal_of))]
-pub fn refusal(words: [u32; 2], room: usize) -> u32
-    ensures { result ≡ refusal_of words room }
+pub fn refusal(words: [u32; 2], room: usize) -> Result<(), Refusal>
+    ensures { told result ≡ refusal_of words room }
 {
     if room < MOST as usize {
-        return Refusal::Area.number();
+        return Err(Refusal::Area);
     }
     if 1 < words[1] {
-        return Refusal::State.number();
+        return Err(Refusal::State);
     }
     if state_of(words).is_unsound() {
-        return Refusal::State.number();
+        return Err(Refusal::State);
     }
-    0
+    Ok(())
 }
 
 // An octet, by the words of the state, each of which is read and written by itself, the usual case by few tests: an octet has little time.
 #[tactic(auto, using(crate::proofs::Octets::refusals))]
-pub fn octet(stream: &mut [u32; 2], area: &mut [u8], octet: u8) -> u32
-    ensures { Octet (octet_of stream.old area.old octet) result stream.new area.new }
+pub fn octet(stream: &mut [u32; 2], area: &mut [u8], octet: u8) -> Result<(), Refusal>
+    ensures { Octet (octet_of stream.old area.old octet) (told result) stream.new area.new }
 {
     if area.len() < MOST as usize {
-        return Refusal::Area.number();
+        return Err(Refusal::Area);
     }
     let count = stream[0];
     if count < MOST {
         if stream[1] != 0 {
-            return Refusal::State.number();
+            return Err(Refusal::State);
         }
         area[count as usize] = octet;
         stream[0] = count + 1;
-        return 0;
+        return Ok(());
     }
     if MOST < count {
-        return Refusal::State.number();
+        return Err(Refusal::State);
     }
     if 1 < stream[1] {
-        return Refusal::State.number();
+        return Err(Refusal::State);
     }
     stream[1] = 1;
-    0
+    Ok(())
+}
+
+// The number of a refusal, for C, or 0.
+pub fn number_of(answer: Result<(), Refusal>) -> u32
+    ensures { result ≡ told answer }
+{
+    match answer {
+        Ok(()) => 0,
+        Err(why) => why.number(),
+    }
 }
 
 // What the first receiver answers to an mFrame that runs over, by the words of its record; it changes nothing.
 // That the words are nine is told for callers, who lend them.
-pub fn too_long(receiver: [u32; 9], room: usize) -> u32
-    ensures { (result ≡ too_long receiver room) × (length receiver ≡ 9) }
+pub fn too_long(receiver: [u32; 9], room: usize) -> First
+    ensures { (refused result ≡ says (too_long receiver room) 0) × (length receiver ≡ 9) }
 {
     if room < BODY_MOST {
-        return 10;
+        return First::Buffer;
     }
     if receiver_words::receiver_fits(receiver) {
         if receiver_words::receiver_of(receiver).in_range() {
-            return 13;
+            return First::Head(Fault::Long);
         }
     }
-    11
+    First::Record
 }

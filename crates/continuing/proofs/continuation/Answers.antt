@@ -10,22 +10,22 @@ returns-in_default c =
 pub returns-in_default-counts_of : goal.returns-in_default-counts_of
 returns-in_default-counts_of c =
     c.abandoned.ensures
-    ∙ miscounted _ _ _ _ c.assembly_of.ensures c.in-Open.is c.counts_of.ensures c.in_default-counts_of.is
+    ∙ miscounted _ _ _ _ c.assembly_of.ensures c.in-Some.is c.counts_of.ensures c.in_default-counts_of.is
 
 pub returns-in_default-room_for : goal.returns-in_default-room_for
 returns-in_default-room_for c =
     c.abandoned-in_default-room_for.ensures
-    ∙ too_long _ _ _ _ c.assembly_of.ensures c.in-Open.is c.counts_of.ensures c.in-Expected.is
+    ∙ too_long _ _ _ _ c.assembly_of.ensures c.in-Some.is c.counts_of.ensures c.in-Expected.is
     c.room_for.ensures c.in_default-room_for.is
 
 pub returns-in_default-check_of : goal.returns-in_default-check_of
 returns-in_default-check_of c =
     c.abandoned-in_default-check_of.ensures
-    ∙ damaged _ _ _ _ c.assembly_of.ensures c.in-Open.is c.counts_of.ensures c.in-Expected.is
-    c.room_for.ensures c.in-Enough.is c.judge.ensures c.check_of.ensures c.in_default-check_of.is
+    ∙ damaged _ _ _ _ c.assembly_of.ensures c.in-Some.is c.counts_of.ensures c.in-Expected.is
+    c.room_for.ensures c.in-Some-room_for.is c.judge.ensures c.check_of.ensures c.in_default-check_of.is
 
 pub returns : goal.returns
 returns c =
     c.taken.ensures
-    ∙ passed _ _ _ _ c.assembly_of.ensures c.in-Open.is c.counts_of.ensures c.in-Expected.is
-    c.room_for.ensures c.in-Enough.is c.judge.ensures c.check_of.ensures c.in-Good.is
+    ∙ passed _ _ _ _ c.assembly_of.ensures c.in-Some.is c.counts_of.ensures c.in-Expected.is
+    c.room_for.ensures c.in-Some-room_for.is c.judge.ensures c.check_of.ensures c.in-Some-check_of.is

@@ -10,8 +10,3 @@ returns-then-state-lt-MOST c =
     let a = c.args in
     let t0 = c.if-state-lt-MOST.true in
     (simp tests, set_one a.area.now a.state.count a.octet (omega arith) ∙ simp tests)
-
-pub returns : goal.returns
-returns c =
-    let t0 = c.if-state-lt-MOST.false in
-    (simp tests, simp tests)

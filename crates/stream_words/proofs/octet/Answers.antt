@@ -1,4 +1,5 @@
 -- `stream_words::octet` meets its contract.
+use mathlib.Core.Path.{refl}
 use native.Mathlib.Omega.{arith}
 use lib.ListN.{length}
 use Rattle.stream_words.proofs.Octets.{short, below, full, refused, kept, remembered}
@@ -7,7 +8,7 @@ use Rattle.stream_words.proofs.octet.Goals as goal
 pub returns-then-area : goal.returns-then-area
 returns-then-area c =
     let a = c.args in
-    refused a.stream.now a.area.now a.octet c.number.ensures (short a.stream.now (length a.area.now) c.if-area.true) (omega arith)
+    refused a.stream.now a.area.now a.octet refl (short a.stream.now (length a.area.now) c.if-area.true) (omega arith)
 
 pub returns-then-count-lt-MOST : goal.returns-then-count-lt-MOST
 returns-then-count-lt-MOST c =
