@@ -5,7 +5,7 @@ ghost use Rattle.std.specs.Prelude.{◌+◌, ◌≤◌, length};
 use crate::trouble::{File, Trouble};
 use mframe::BODY_MOST;
 use pcap_fields::Order;
-use pcap_records::{FILE_HEADER, Opened};
+use pcap_records::FILE_HEADER;
 use receiver_record::Record;
 use std::fs;
 use std::io::{Read, Write};
@@ -52,36 +52,31 @@ enum Found {
 
 fn find_header(octets: &[u8]) -> Found {
     match pcap_records::open(octets) {
-        Opened::Good(order) => Found::FileHeader(order),
-        Opened::Refused(why) => Found::Refused(Trouble::Capture { number: 0, why }),
+        Ok(order) => Found::FileHeader(order),
+        Err(why) => Found::Refused(Trouble::Capture { number: 0, why }),
     }
 }
 
 fn find_in_trace(octets: &[u8], at: usize, number: u64) -> Found {
     let cursor = Cursor { at };
     match cursor.read(octets) {
-        trace::Read::Record {
-            start,
-            length: _,
-            next,
-        } => Found::Record {
-            start,
-            end: next.at,
+        Ok(Some(span)) => Found::Record {
+            start: span.start,
+            end: span.next,
         },
-        trace::Read::End => Found::End,
-        trace::Read::Refused(why) => Found::Refused(Trouble::Trace { number, why }),
+        Ok(None) => Found::End,
+        Err(why) => Found::Refused(Trouble::Trace { number, why }),
     }
 }
 
 fn find_in_capture(order: Order, octets: &[u8], at: usize, number: u64) -> Found {
     match pcap_records::record_at(order, octets, at) {
-        pcap_records::Read::Record {
-            start,
-            length: _,
-            next,
-        } => Found::Record { start, end: next },
-        pcap_records::Read::End => Found::End,
-        pcap_records::Read::Refused(why) => Found::Refused(Trouble::Capture { number, why }),
+        Ok(Some(span)) => Found::Record {
+            start: span.start,
+            end: span.next,
+        },
+        Ok(None) => Found::End,
+        Err(why) => Found::Refused(Trouble::Capture { number, why }),
     }
 }
 

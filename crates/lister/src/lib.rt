@@ -12,7 +12,7 @@ use receiver_record::Record;
 use std::env::{Env, FillError};
 use std::io::{IsTerminal, Print};
 use std::process::ExitCode;
-use trace::{Cursor, Read, Refusal};
+use trace::{Cursor, Refusal};
 use windows::{LONGEST, front, part};
 
 // The status of a program that the system ends for writing what nobody reads (SIGPIPE).
@@ -96,16 +96,12 @@ fn find(s: Standing, window: &[u8]) -> Found {
     let at = s.from;
     let cursor = Cursor { at };
     match cursor.read(front(window, s.to)) {
-        Read::Record {
-            start,
-            length: _,
-            next,
-        } => Found::Record {
-            start,
-            end: next.at,
+        Ok(Some(span)) => Found::Record {
+            start: span.start,
+            end: span.next,
         },
-        Read::End => Found::End,
-        Read::Refused(refusal) => refused(refusal, trouble),
+        Ok(None) => Found::End,
+        Err(refusal) => refused(refusal, trouble),
     }
 }
 
