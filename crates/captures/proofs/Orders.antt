@@ -20,7 +20,7 @@ use Rattle.pcap_fields.specs.declared.Order.TheVariants.{Little, Big}
 use Rattle.pcap_records.specs.Records.{file_header, header, magic, link_type, Opening, opens, shut, version_fits, fields_of, open_of, stored_at, original_at, record_at}
 use Rattle.pcap_records.proofs.Laws.{read_end, header_cut, same_record, open_whole}
 use Rattle.pcap_lists.specs.Lists.{judged, records_in}
-use Rattle.pcap_lists.proofs.Inside.{found_inside, capture_reading}
+use Rattle.pcap_records.proofs.Inside.{found_inside, capture_reading}
 use Rattle.pcap.specs.Captures.{outcome, read_in, read_of}
 use Rattle.captures.specs.Typed.{Octets}
 use Rattle.captures.specs.Turned.{other, file_header_turned, header_turned, records_turned, order_of, turned}

@@ -19,7 +19,7 @@ use Rattle.pcap_headers.specs.Headers as headers
 use Rattle.pcap_headers.specs.Headers.{capture_record, capture_records, capture_of}
 use Rattle.pcap_headers.proofs.Lengths.{length_file_header, length_record}
 use Rattle.pcap_lists.specs.Lists.{records_in}
-use Rattle.pcap_lists.proofs.Inside.{capture_reading}
+use Rattle.pcap_records.proofs.Inside.{capture_reading}
 use Rattle.pcap_contents.proofs.Turns.{capture_layout}
 
 -- a record behind any octets and before any others

@@ -17,7 +17,7 @@ use Rattle.pcap_records.specs.Records.{file_header, record_at}
 use Rattle.pcap_headers.specs.Headers.{capture_record, capture_records, capture_of}
 use Rattle.pcap_headers.proofs.Lengths.{length_record, length_records, length_capture}
 use Rattle.pcap_lists.specs.Lists.{good, behind, judged, records_in}
-use Rattle.pcap_lists.proofs.Inside.{found_inside, ended_over, capture_reading}
+use Rattle.pcap_records.proofs.Inside.{found_inside, ended_over, capture_reading}
 
 -- a good list ended well, and has as many contents as it is said to have
 pub record Ended (l : Listing) (n : ℕ) : Type 0 where

@@ -9,9 +9,9 @@ use types.Run.{OneOf, miss}
 use Rattle.octets.specs.Laid.{laid}
 use Rattle.octets.proofs.Laid.{laid_laid, laid_none}
 use Rattle.trace.specs.Trace.{Said, found, ended, refused}
-use Rattle.trace_layout.specs.Layout.{Listing, rest_from}
+use Rattle.trace_layout.specs.Layout.{Reading, Listing, rest_from}
 use Rattle.trace_layout.proofs.Laid.{Layout}
-use Rattle.trace_layout.proofs.Rest.{Reading, rest_found, rest_ended, rest_refused}
+use Rattle.trace_layout.proofs.Rest.{rest_found, rest_ended, rest_refused}
 use Rattle.trace.specs.declared.Read.TheVariants as T
 use Rattle.trace.specs.declared.Read as trace
 use Rattle.trace.specs.Trace as trace-specs

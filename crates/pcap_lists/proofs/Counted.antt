@@ -7,8 +7,8 @@ use native.Mathlib.Nat.{add-zero}
 use native.Mathlib.Omega.{arith}
 use lib.ListN.{length}
 use Rattle.trace.specs.Trace as trace
-use Rattle.trace_layout.specs.Layout.{Listing, rest_from}
-use Rattle.trace_layout.proofs.Rest.{Reading, rest_found, rest_ended, rest_refused}
+use Rattle.trace_layout.specs.Layout.{Reading, Listing, rest_from}
+use Rattle.trace_layout.proofs.Rest.{rest_found, rest_ended, rest_refused}
 use Rattle.pcap_lists.specs.Lists.{good, refused, behind, judged_from}
 
 module _ (read : ℕ → trace.Said) (s : List ℕ) (w : Reading read s) (k at : ℕ) where

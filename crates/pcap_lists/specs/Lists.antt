@@ -1,11 +1,14 @@
 -- Whether a trace or a capture is accepted (document 02, (vii)): record by record. Assumes nothing.
-use Rattle.std.specs.Prelude.{List, ℕ, ◌+◌, length}
+use Rattle.std.specs.Prelude.{List, ℕ, ◌+◌, length, Option, Some, None, Result, Ok, Err}
 use Rattle.trace.specs.Trace as trace
+use Rattle.trace.specs.declared.Span.{Span}
 use Rattle.trace_layout.specs.Layout.{Listing, rest_from}
 use Rattle.pcap_fields.specs.declared.Order.{Order}
 use Rattle.pcap_records.specs.Records as capture
-use Rattle.pcap_lists.specs.declared.Answer.{Answer}
-use Rattle.pcap_lists.specs.declared.Answer.TheVariants.{Good, Trace, Capture, Short}
+use Rattle.pcap_lists.specs.declared.Why.{Why}
+use Rattle.pcap_lists.specs.declared.Why.TheVariants as W
+use Rattle.pcap_lists.specs.declared.Error.{Error}
+use Rattle.pcap_lists.specs.declared.Error.TheVariants.{Refused, Short}
 
 -- what is said of a trace or a capture: good, with a number of records, or of octets written; refused, by number, with the record's own number,
 -- the first being 1; or the output is short of the room for so many octets
@@ -14,11 +17,20 @@ pub data Said : Type 0 where
   refused : ℕ → ℕ → Said
   short : ℕ → Said
 
-abbrev pub said : Answer → Said
-said (Good n) = good n
-said (Trace why k) = refused (trace.refusal_number why) k
-said (Capture why k) = refused (capture.refusal_number why) k
-said (Short n) = short n
+abbrev pub why_number : Why → ℕ
+why_number (W.Trace why) = trace.refusal_number why
+why_number (W.Capture why) = capture.refusal_number why
+
+abbrev pub said : Result ℕ Error → Said
+said (Ok n) = good n
+said (Err (Refused why k)) = refused (why_number why) k
+said (Err (Short n)) = short n
+
+-- what reading a record of either says
+abbrev pub read_said : Result (Option Span) Why → trace.Said
+read_said (Ok (Some p)) = trace.found p.start p.length p.next
+read_said (Ok None) = trace.ended
+read_said (Err why) = trace.refused (why_number why)
 
 -- an answer in the paper's numbers, "78, lent output too short, last", 0 where there is no refusal; and the number that goes with it
 abbrev pub number_of : Said → ℕ

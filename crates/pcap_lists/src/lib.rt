@@ -1,102 +1,169 @@
 // Whether a trace or a capture is accepted, record by record, and how many records it has.
 #![tactic(auto)]
 
-ghost use Rattle.std.specs.Prelude.{◌≡◌};
-ghost use Rattle.trace_layout.specs.Layout.{read_all};
-ghost use Rattle.pcap_lists.specs.Lists.{said, number_of, value_of, judged, records_in};
+ghost use Rattle.std.specs.Prelude.{◌≡◌, ℕ, List, length};
+ghost use Rattle.trace.specs.Trace as trace;
+ghost use Rattle.trace_layout.specs.Layout.{Reading, rest_from};
+ghost use Rattle.trace_layout.proofs.Inside.{trace_reading};
+ghost use Rattle.pcap_records.specs.Records as capture;
+ghost use Rattle.pcap_lists.specs.Lists.{why_number, read_said, said, number_of, value_of, judged};
+ghost use Rattle.pcap_lists.specs.declared.Why.TheVariants as W;
+ghost use Rattle.pcap_records.proofs.Inside.{capture_reading};
 
 use pcap_fields::Order;
-use pcap_records::{FILE_HEADER, Read};
-use trace::Cursor;
+use pcap_records::FILE_HEADER;
+use trace::{Cursor, Span};
 
-// What a call that is given a trace or a capture answers.
+// Why a trace is refused, 50 to 53, or a capture, 70 to 77.
 #[derive(Clone, Copy)]
-pub enum Answer {
-    // It is good: so many records; or so many octets were written.
-    Good(usize),
-    // The trace is refused: why, and the record's number, the first being 1.
-    Trace {
-        why: trace::Refusal,
-        record: usize,
-    },
-    // The capture is refused: why, and the record's number, 0 where it is the file's header.
-    Capture {
-        why: pcap_records::Refusal,
-        record: usize,
-    },
+pub enum Why {
+    Trace(trace::Refusal),
+    Capture(pcap_records::Refusal),
+}
+
+impl Why {
+    pub fn number(self) -> u32
+        ensures { result ≡ why_number self }
+    {
+        match self {
+            Why::Trace(why) => why.number(),
+            Why::Capture(why) => why.number(),
+        }
+    }
+}
+
+impl From<trace::Refusal> for Why {
+    ghost from_gives = { λ why w. w ≡ W.Trace why };
+
+    fn from(why: trace::Refusal) -> Why {
+        Why::Trace(why)
+    }
+}
+
+impl From<pcap_records::Refusal> for Why {
+    ghost from_gives = { λ why w. w ≡ W.Capture why };
+
+    fn from(why: pcap_records::Refusal) -> Why {
+        Why::Capture(why)
+    }
+}
+
+// What a call that is given a trace or a capture answers where it does nothing.
+#[derive(Clone, Copy)]
+pub enum Error {
+    // Why it is refused, and the record's number, the first being 1, and 0 where it is a capture's header.
+    Refused { why: Why, record: usize },
     // The output has no room for so many octets. Nothing was written.
     Short(usize),
 }
 
-impl Answer {
-    // 0, or the number of the refusal: 50 to 53, 70 to 77, or 78 where the output is short.
-    pub fn number(self) -> u32
-        ensures { result ≡ number_of (said self) }
-    {
-        match self {
-            Answer::Good(_) => 0,
-            Answer::Trace { why, record: _ } => why.number(),
-            Answer::Capture { why, record: _ } => why.number(),
-            Answer::Short(_) => 78,
-        }
+// The number of an answer: 0, or that of the refusal, 50 to 53 or 70 to 77, or 78 where the output is short.
+pub fn number(answer: Result<usize, Error>) -> u32
+    ensures { result ≡ number_of (said answer) }
+{
+    match answer {
+        Ok(_) => 0,
+        Err(Error::Refused { why, record: _ }) => why.number(),
+        Err(Error::Short(_)) => 78,
     }
+}
 
-    // How many records are good or octets written, the number of the refused record, or how many octets there must be room for.
-    pub fn value(self) -> usize
-        ensures { result ≡ value_of (said self) }
-    {
-        match self {
-            Answer::Good(n) => n,
-            Answer::Trace { why: _, record } => record,
-            Answer::Capture { why: _, record } => record,
-            Answer::Short(n) => n,
-        }
+// How many records are good or octets written, the number of the refused record, or how many octets there must be room for.
+pub fn value(answer: Result<usize, Error>) -> usize
+    ensures { result ≡ value_of (said answer) }
+{
+    match answer {
+        Ok(n) => n,
+        Err(Error::Refused { why: _, record }) => record,
+        Err(Error::Short(n)) => n,
     }
+}
+
+// A file that is read record by record.
+pub trait Records {
+    ghost octets: { Self → List ℕ };
+
+    ghost front: { Self → ℕ };
+
+    // The place of the first record.
+    fn front(&self) -> usize
+        ensures { result ≡ front self.now };
+
+    ghost read_at: { Self → ℕ → trace.Said };
+
+    // The record at a place, the end, or why the record there is refused.
+    fn read(&self, at: usize) -> Result<Option<Span>, Why>
+        ensures { read_said result ≡ read_at self.now at };
+
+    ghost reading: { (file : Self) → Reading (read_at file) (octets file) };
 }
 
 // A trace that is to be written as a capture.
-pub fn of_trace(trace: &[u8]) -> Answer
-    ensures { said result ≡ judged (read_all trace.now) }
-{
-    let mut records = 0;
-    let mut at = 0;
-    while at < trace.len() {
-        let record = records + 1;
-        let cursor = Cursor { at };
-        let read = cursor.read(trace);
-        match read {
-            trace::Read::Record {
-                start: _,
-                length: _,
-                next,
-            } => at = next.at,
-            trace::Read::End => return Answer::Good(records),
-            trace::Read::Refused(why) => return Answer::Trace { why, record },
-        }
-        records = record;
-    }
-    Answer::Good(records)
+#[derive(Clone, Copy)]
+pub struct Trace<'a> {
+    pub octets: &'a [u8],
 }
 
-// The records of a capture whose fields are in this order.
-pub fn of_capture(order: Order, capture: &[u8]) -> Answer
-    ensures { said result ≡ judged (records_in order capture.now) }
+impl<'a> Records for Trace<'a> {
+    ghost octets = { λ file. file.octets.now };
+
+    ghost read_at = { λ file. trace.read_at file.octets.now };
+
+    ghost front = { λ _. 0 };
+
+    fn front(&self) -> usize {
+        0
+    }
+
+    ghost reading = { λ file. trace_reading file.octets.now };
+
+    fn read(&self, at: usize) -> Result<Option<Span>, Why> {
+        Ok(Cursor { at }.read(self.octets)?)
+    }
+}
+
+// A capture whose fields are in this order.
+#[derive(Clone, Copy)]
+pub struct Capture<'a> {
+    pub order: Order,
+    pub octets: &'a [u8],
+}
+
+impl<'a> Records for Capture<'a> {
+    ghost octets = { λ file. file.octets.now };
+
+    ghost read_at = { λ file. capture.record_at file.order file.octets.now };
+
+    ghost front = { λ _. capture.file_header };
+
+    fn front(&self) -> usize {
+        FILE_HEADER
+    }
+
+    ghost reading = { λ file. capture_reading file.order file.octets.now };
+
+    fn read(&self, at: usize) -> Result<Option<Span>, Why> {
+        Ok(pcap_records::record_at(self.order, self.octets, at)?)
+    }
+}
+
+// How many records a trace or a capture has, if all of it is good.
+pub fn count<R: Records>(file: &R) -> Result<usize, Error>
+    ensures { said result ≡ judged (rest_from (R.read_at file.now) (R.octets file.now) (R.front file.now)) }
 {
     let mut records = 0;
-    let mut at = FILE_HEADER;
-    while at < capture.len() {
-        let record = records + 1;
-        let read = pcap_records::record_at(order, capture, at);
-        match read {
-            Read::Record {
-                start: _,
-                length: _,
-                next,
-            } => at = next,
-            Read::End => return Answer::Good(records),
-            Read::Refused(why) => return Answer::Capture { why, record },
+    let mut at = file.front();
+    loop {
+        match file.read(at) {
+            Ok(Some(span)) => at = span.next,
+            Ok(None) => return Ok(records),
+            Err(why) => {
+                return Err(Error::Refused {
+                    why,
+                    record: records + 1,
+                });
+            }
         }
-        records = record;
+        records += 1;
     }
-    Answer::Good(records)
 }

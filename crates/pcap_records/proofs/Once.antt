@@ -5,13 +5,11 @@ use mathlib.Core.Bool.{cond}
 use mathlib.Core.List.{List}
 use Prim.Native.Nat.{ℕ}
 use lib.Dec.{eqb}
+use Rattle.std.specs.Prelude.{Option, Some, None, Result, Ok, Err}
+use Rattle.trace.specs.declared.Span.{Span}
 use Rattle.trace.specs.Trace.{Said, found, ended, refused}
 use Rattle.pcap_fields.specs.declared.Order.{Order}
 use Rattle.pcap_records.specs.Records.{Opening, opens, shut, refusal_number, opening, open_of, said, record_at}
-use Rattle.pcap_records.specs.declared.Opened.{Opened}
-use Rattle.pcap_records.specs.declared.Opened.TheVariants as O
-use Rattle.pcap_records.specs.declared.Read.{Read}
-use Rattle.pcap_records.specs.declared.Read.TheVariants as R
 use Rattle.pcap_records.specs.declared.Refusal.{Refusal}
 use Rattle.pcap_records.specs.declared.Refusal.TheVariants.{FileHeader, Magic, Version, LinkType, Header, Length, Original, Content}
 
@@ -32,32 +30,32 @@ refusal_back Original = refl
 refusal_back Content = refl
 
 -- no two answers are said alike: what is said gives the answer back
-abbrev unopened : Opening → Opened
-unopened (opens o) = O.Good o
-unopened (shut k) = O.Refused (refusal_of k)
+abbrev unopened : Opening → Result Order Refusal
+unopened (opens o) = Ok o
+unopened (shut k) = Err (refusal_of k)
 
-open_back : (r : Opened) → unopened (opening r) ≡ r
-open_back (O.Good o) = refl
-open_back (O.Refused q) = ap O.Refused (refusal_back q)
+open_back : (r : Result Order Refusal) → unopened (opening r) ≡ r
+open_back (Ok o) = refl
+open_back (Err q) = ap Err (refusal_back q)
 
-abbrev unsaid : Said → Read
-unsaid (found place n next) = R.Record place n next
-unsaid ended = R.End
-unsaid (refused k) = R.Refused (refusal_of k)
+abbrev unsaid : Said → Result (Option Span) Refusal
+unsaid (found place n next) = Ok (Some (record { start = place; length = n; next = next }))
+unsaid ended = Ok None
+unsaid (refused k) = Err (refusal_of k)
 
-back : (r : Read) → unsaid (said r) ≡ r
-back (R.Record place n next) = refl
-back R.End = refl
-back (R.Refused q) = ap R.Refused (refusal_back q)
+back : (r : Result (Option Span) Refusal) → unsaid (said r) ≡ r
+back (Ok (Some p)) = refl
+back (Ok None) = refl
+back (Err q) = ap Err (refusal_back q)
 
 -- Refusal::number
 pub number_once : (q : Refusal) {x y : ℕ} → x ≡ refusal_number q → y ≡ refusal_number q → x ≡ y
 number_once q p s = p ∙ sym s
 
 -- open
-pub open_once : (s : List ℕ) {x y : Opened} → opening x ≡ open_of s → opening y ≡ open_of s → x ≡ y
+pub open_once : (s : List ℕ) {x y : Result Order Refusal} → opening x ≡ open_of s → opening y ≡ open_of s → x ≡ y
 open_once s {x} {y} p q = sym (open_back x) ∙ ap unopened (p ∙ sym q) ∙ open_back y
 
 -- record_at
-pub record_at_once : (o : Order) (s : List ℕ) (at : ℕ) {x y : Read} → said x ≡ record_at o s at → said y ≡ record_at o s at → x ≡ y
+pub record_at_once : (o : Order) (s : List ℕ) (at : ℕ) {x y : Result (Option Span) Refusal} → said x ≡ record_at o s at → said y ≡ record_at o s at → x ≡ y
 record_at_once o s at {x} {y} p q = sym (back x) ∙ ap unsaid (p ∙ sym q) ∙ back y

@@ -1,13 +1,10 @@
 -- Reading a capture file (document 02, (vii)): its header, and the record at a place, the end or a refusal. Assumes nothing.
-use Rattle.std.specs.Prelude.{Bool, cond, not, ◌&&◌, List, ℕ, ◌+◌, ltb, eqb, length}
+use Rattle.std.specs.Prelude.{Bool, cond, not, ◌&&◌, List, ℕ, ◌+◌, ltb, eqb, length, Option, Some, None, Result, Ok, Err}
 use Rattle.trace.specs.Trace.{Said, found, ended, refused, limit, left}
+use Rattle.trace.specs.declared.Span.{Span}
 use Rattle.pcap_fields.specs.Fields.{half_in, word_in}
 use Rattle.pcap_fields.specs.declared.Order.{Order}
 use Rattle.pcap_fields.specs.declared.Order.TheVariants.{Little, Big}
-use Rattle.pcap_records.specs.declared.Opened.{Opened}
-use Rattle.pcap_records.specs.declared.Opened.TheVariants as O
-use Rattle.pcap_records.specs.declared.Read.{Read}
-use Rattle.pcap_records.specs.declared.Read.TheVariants as R
 use Rattle.pcap_records.specs.declared.Refusal.{Refusal}
 use Rattle.pcap_records.specs.declared.Refusal.TheVariants.{FileHeader, Magic, Version, LinkType, Header, Length, Original, Content}
 
@@ -48,9 +45,9 @@ pub data Opening : Type 0 where
   opens : Order → Opening
   shut : ℕ → Opening
 
-abbrev pub opening : Opened → Opening
-opening (O.Good o) = opens o
-opening (O.Refused q) = shut (refusal_number q)
+abbrev pub opening : Result Order Refusal → Opening
+opening (Ok o) = opens o
+opening (Err q) = shut (refusal_number q)
 
 -- magic (4 octets), version (2 and 2), time zone and accuracy (4 each, ignored), snap length (4, ignored), link type (4)
 abbrev pub version_fits : Order → List ℕ → Bool
@@ -68,10 +65,10 @@ open_of s =
     (shut 71)))
 
 -- what reading a record says, in the terms of a trace's: by the place and the length of its content and the place of the next record
-abbrev pub said : Read → Said
-said (R.Record place n next) = found place n next
-said R.End = ended
-said (R.Refused q) = refused (refusal_number q)
+abbrev pub said : Result (Option Span) Refusal → Said
+said (Ok (Some p)) = found p.start p.length p.next
+said (Ok None) = ended
+said (Err q) = refused (refusal_number q)
 
 -- seconds and microseconds (4 octets each, ignored), stored and original length (4 each), content
 abbrev pub stored_at : Order → List ℕ → ℕ → ℕ

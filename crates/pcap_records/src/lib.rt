@@ -5,6 +5,7 @@ ghost use Rattle.std.specs.Prelude.{◌≡◌, ◌≤◌, length};
 ghost use Rattle.pcap_records.specs.Records.{refusal_number, opening, said, version_fits, fields_of, open_of, record_at};
 
 use pcap_fields::Order;
+use trace::Span;
 
 // The octets of the file's header, and of a record's.
 pub const FILE_HEADER: usize = 24;
@@ -58,26 +59,6 @@ impl Refusal {
     }
 }
 
-#[derive(Clone, Copy)]
-pub enum Opened {
-    // The order of all fields of the file.
-    Good(Order),
-    Refused(Refusal),
-}
-
-#[derive(Clone, Copy)]
-pub enum Read {
-    // A whole record: where its content starts, the content's length, and the place of the next record.
-    Record {
-        start: usize,
-        length: usize,
-        next: usize,
-    },
-    // No octet is left.
-    End,
-    Refused(Refusal),
-}
-
 // Whether the version is 2.4.
 fn version_fits(order: Order, capture: &[u8]) -> bool
     requires { 24 ≤ length capture.now }
@@ -87,25 +68,25 @@ fn version_fits(order: Order, capture: &[u8]) -> bool
 }
 
 // The header's other fields, once its magic has told the order.
-fn fields(order: Order, capture: &[u8]) -> Opened
+fn fields(order: Order, capture: &[u8]) -> Result<Order, Refusal>
     requires { 24 ≤ length capture.now }
     ensures { opening result ≡ fields_of order capture.now }
 {
     if !version_fits(order, capture) {
-        return Opened::Refused(Refusal::Version);
+        return Err(Refusal::Version);
     }
     if pcap_fields::word(order, capture, 20) != LINK_TYPE {
-        return Opened::Refused(Refusal::LinkType);
+        return Err(Refusal::LinkType);
     }
-    Opened::Good(order)
+    Ok(order)
 }
 
 // The file's header: the order of all fields, or why it is refused. The first record stands behind 24 octets.
-pub fn open(capture: &[u8]) -> Opened
+pub fn open(capture: &[u8]) -> Result<Order, Refusal>
     ensures { opening result ≡ open_of capture.now }
 {
     if capture.len() < FILE_HEADER {
-        return Opened::Refused(Refusal::FileHeader);
+        return Err(Refusal::FileHeader);
     }
     if pcap_fields::word(Order::Little, capture, 0) == MAGIC {
         return fields(Order::Little, capture);
@@ -113,37 +94,37 @@ pub fn open(capture: &[u8]) -> Opened
     if pcap_fields::word(Order::Big, capture, 0) == MAGIC {
         return fields(Order::Big, capture);
     }
-    Opened::Refused(Refusal::Magic)
+    Err(Refusal::Magic)
 }
 
 // The record at a place, the end, or why the record there is refused.
-pub fn record_at(order: Order, capture: &[u8], at: usize) -> Read
+pub fn record_at(order: Order, capture: &[u8], at: usize) -> Result<Option<Span>, Refusal>
     ensures { said result ≡ record_at order capture.now at }
 {
     let end = capture.len();
     if end <= at {
-        return Read::End;
+        return Ok(None);
     }
     if end - at < HEADER {
-        return Read::Refused(Refusal::Header);
+        return Err(Refusal::Header);
     }
     let stored = pcap_fields::word(order, capture, at + 8);
     let original = pcap_fields::word(order, capture, at + 12);
     if LIMIT < stored {
-        return Read::Refused(Refusal::Length);
+        return Err(Refusal::Length);
     }
     if stored != original {
-        return Read::Refused(Refusal::Original);
+        return Err(Refusal::Original);
     }
     let start = at + HEADER;
     let length = stored as usize;
     if end - start < length {
-        return Read::Refused(Refusal::Content);
+        return Err(Refusal::Content);
     }
     let next = start + length;
-    Read::Record {
+    Ok(Some(Span {
         start,
         length,
         next,
-    }
+    }))
 }

@@ -6,9 +6,9 @@ use mathlib.Core.List.{List}
 use Prim.Native.Nat.{ℕ}
 use lib.Dec.{eqb}
 use Rattle.trace.specs.Trace.{front, Said, found, ended, refused, refusal_number, said, read_at}
+use Rattle.std.specs.Prelude.{Option, Some, None, Result, Ok, Err}
+use Rattle.trace.specs.declared.Span.{Span}
 use Rattle.trace.specs.declared.Cursor.{Cursor}
-use Rattle.trace.specs.declared.Read.{Read}
-use Rattle.trace.specs.declared.Read.TheVariants.{Record, End, Refused}
 use Rattle.trace.specs.declared.Refusal.{Refusal}
 use Rattle.trace.specs.declared.Refusal.TheVariants.{Header, Length, Kind, Content}
 
@@ -23,15 +23,15 @@ refusal_back Kind = refl
 refusal_back Content = refl
 
 -- no two answers are said alike: what is said gives the answer back
-abbrev unsaid : Said → Read
-unsaid (found place n next) = Record place n (record { at = next })
-unsaid ended = End
-unsaid (refused k) = Refused (refusal_of k)
+abbrev unsaid : Said → Result (Option Span) Refusal
+unsaid (found place n next) = Ok (Some (record { start = place; length = n; next = next }))
+unsaid ended = Ok None
+unsaid (refused k) = Err (refusal_of k)
 
-back : (r : Read) → unsaid (said r) ≡ r
-back (Record place n next) = refl
-back End = refl
-back (Refused q) = ap Refused (refusal_back q)
+back : (r : Result (Option Span) Refusal) → unsaid (said r) ≡ r
+back (Ok (Some p)) = refl
+back (Ok None) = refl
+back (Err q) = ap Err (refusal_back q)
 
 -- Refusal::number
 pub number_once : (q : Refusal) {x y : ℕ} → x ≡ refusal_number q → y ≡ refusal_number q → x ≡ y
@@ -42,5 +42,5 @@ pub new_once : {x y : Cursor} → x ≡ front → y ≡ front → x ≡ y
 new_once p q = p ∙ sym q
 
 -- Cursor::read
-pub read_once : (s : List ℕ) (at : ℕ) {x y : Read} → said x ≡ read_at s at → said y ≡ read_at s at → x ≡ y
+pub read_once : (s : List ℕ) (at : ℕ) {x y : Result (Option Span) Refusal} → said x ≡ read_at s at → said y ≡ read_at s at → x ≡ y
 read_once s at {x} {y} p q = sym (back x) ∙ ap unsaid (p ∙ sym q) ∙ back y

@@ -1,9 +1,8 @@
 -- Reading the house trace of document 01, "Trace and listing": the record at a place, the end, or a refusal.
 -- Assumes nothing.
-use Rattle.std.specs.Prelude.{cond, not, List, ℕ, ◌+◌, ◌-◌, ◌*◌, ltb, eqb, length, get_or}
+use Rattle.std.specs.Prelude.{cond, not, List, ℕ, ◌+◌, ◌-◌, ◌*◌, ltb, eqb, length, get_or, Option, Some, None, Result, Ok, Err}
+use Rattle.trace.specs.declared.Span.{Span}
 use Rattle.trace.specs.declared.Cursor.{Cursor}
-use Rattle.trace.specs.declared.Read.{Read}
-use Rattle.trace.specs.declared.Read.TheVariants.{Record, End, Refused}
 use Rattle.trace.specs.declared.Refusal.{Refusal}
 use Rattle.trace.specs.declared.Refusal.TheVariants.{Header, Length, Kind, Content}
 
@@ -37,10 +36,10 @@ refusal_number Length = 51
 refusal_number Kind = 52
 refusal_number Content = 53
 
-abbrev pub said : Read → Said
-said (Record place n next) = found place n next.at
-said End = ended
-said (Refused q) = refused (refusal_number q)
+abbrev pub said : Result (Option Span) Refusal → Said
+said (Ok (Some p)) = found p.start p.length p.next
+said (Ok None) = ended
+said (Err q) = refused (refusal_number q)
 
 -- "2 octets, little-endian"
 abbrev pub little_endian : ℕ → ℕ → ℕ

@@ -45,24 +45,19 @@ impl Refusal {
     }
 }
 
+// Where a whole record lies: where its content starts, the content's length, and where the next record starts.
 #[derive(Clone, Copy)]
-pub enum Read {
-    // A whole record: where its content starts, the content's length, and the cursor past it.
-    Record {
-        start: usize,
-        length: usize,
-        next: Cursor,
-    },
-    // No octet is left.
-    End,
-    Refused(Refusal),
+pub struct Span {
+    pub start: usize,
+    pub length: usize,
+    pub next: usize,
 }
 
 // The number in two octets.
 fn little_endian(low: u8, high: u8) -> usize
     ensures { result ≡ little_endian low high }
 {
-    (low as usize) + 256 * (high as usize)
+    usize::from(u16::from_le_bytes([low, high]))
 }
 
 impl Cursor {
@@ -74,34 +69,34 @@ impl Cursor {
     }
 
     // The record at the cursor, the end, or why the record there is refused.
-    pub fn read(self, trace: &[u8]) -> Read
+    pub fn read(self, trace: &[u8]) -> Result<Option<Span>, Refusal>
         ensures { said result ≡ read_at trace.now self.at }
     {
         let at = self.at;
         let end = trace.len();
         if end <= at {
-            return Read::End;
+            return Ok(None);
         }
         if end - at < HEADER {
-            return Read::Refused(Refusal::Header);
+            return Err(Refusal::Header);
         }
         let length = little_endian(trace[at], trace[at + 1]);
         let kind = little_endian(trace[at + 2], trace[at + 3]);
         if LIMIT < length {
-            return Read::Refused(Refusal::Length);
+            return Err(Refusal::Length);
         }
         if kind != KIND {
-            return Read::Refused(Refusal::Kind);
+            return Err(Refusal::Kind);
         }
         let start = at + HEADER;
         if end - start < length {
-            return Read::Refused(Refusal::Content);
+            return Err(Refusal::Content);
         }
-        let past = start + length;
-        Read::Record {
+        let next = start + length;
+        Ok(Some(Span {
             start,
             length,
-            next: Cursor { at: past },
-        }
+            next,
+        }))
     }
 }

@@ -10,7 +10,7 @@ use lib.Dec.{ltb, eqb}
 use lib.ListN.{length}
 use Rattle.rules.proofs.Tests.{never}
 use Rattle.trace.proofs.Laws.{read_end}
-use Rattle.trace_layout.proofs.Rest.{Reading}
+use Rattle.trace_layout.specs.Layout.{Reading}
 use Rattle.trace.specs.Trace.{header, limit, kind, Said, found, ended, refused, length_at, kind_at, left, read_at}
 
 -- where a record that is found lies: its content right behind the header, the next record right behind the content, all of it in the trace;
@@ -80,4 +80,8 @@ trace_reading s =
     record {
       ends = λ at h. read_end s at h;
       grows = λ at place n next e. let w = found_inside s at place n next e in omega arith;
+      least = λ at place n next e. let w = found_inside s at place n next e in omega arith;
+      behind = λ at place n next e. (found_inside s at place n next e).next_behind;
+      inside = λ at place n next e. (found_inside s at place n next e).inside;
+      within = λ at place n next e. (found_inside s at place n next e).within;
     }

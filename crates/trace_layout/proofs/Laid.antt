@@ -6,8 +6,8 @@ use Prim.Native.Nat.{ℕ, suc, ◌+◌, ◌≤◌}
 use native.Mathlib.Omega.{arith}
 use lib.ListN.{length, take, drop, get_or, length-append}
 use Rattle.trace.specs.Trace.{Said, found, ended, limit}
-use Rattle.trace_layout.specs.Layout.{Listing, rest_from}
-use Rattle.trace_layout.proofs.Rest.{Reading, rest_found, rest_ended}
+use Rattle.trace_layout.specs.Layout.{Reading, Listing, rest_from}
+use Rattle.trace_layout.proofs.Rest.{rest_found, rest_ended}
 
 -- a layout: one content, and all of them
 pub record Layout (one : List ℕ → List ℕ) (all : List (List ℕ) → List ℕ) : Type 0 where

@@ -7,12 +7,7 @@ use native.Mathlib.Omega.{arith}
 use lib.ListN.{length, take, drop}
 use Rattle.rules.proofs.Tests.{never}
 use Rattle.trace.specs.Trace.{Said, found, ended, refused}
-use Rattle.trace_layout.specs.Layout.{Listing, onward, list_from, rest_from}
-
--- a way of reading: the end is at the end, and a record that is found ends further on
-pub record Reading (read : ℕ → Said) (s : List ℕ) : Type 0 where
-  pub ends : (at : ℕ) → length s ≤ at → read at ≡ ended
-  pub grows : (at place n next : ℕ) → read at ≡ found place n next → at < next
+use Rattle.trace_layout.specs.Layout.{Reading, Listing, onward, list_from, rest_from}
 
 module _ (read : ℕ → Said) (s : List ℕ) (w : Reading read s) where
   -- where nothing is left, any number of records may be allowed

@@ -1,7 +1,7 @@
 -- Contents laid out as a trace, and a trace, or whatever else is read record by record, read to its end.
 -- Assumes nothing.
-use Rattle.std.specs.Prelude.{List, [], ◌∷◌, ◌++◌, ℕ, zero, suc, ◌-◌, ◌/◌, ◌%◌, length, take, drop}
-use Rattle.trace.specs.Trace.{kind, Said, found, ended, refused, read_at}
+use Rattle.std.specs.Prelude.{◌≡◌, List, [], ◌∷◌, ◌++◌, ℕ, zero, suc, ◌+◌, ◌-◌, ◌/◌, ◌%◌, ◌<◌, ◌≤◌, length, take, drop}
+use Rattle.trace.specs.Trace.{header, limit, kind, Said, found, ended, refused, read_at}
 
 -- "2 octets, little-endian"
 abbrev pub two_octets : ℕ → List ℕ
@@ -42,3 +42,13 @@ rest_from read s at = list_from read s (length s - at) at
 -- all of a trace
 abbrev pub read_all : List ℕ → Listing
 read_all s = rest_from (read_at s) s 0
+
+-- a way of reading octets: the end is at the end; a record that is found ends further on, by a header's four octets at least, in the octets, right
+-- behind its content, which is no longer than the limit
+pub record Reading (read : ℕ → Said) (s : List ℕ) : Type 0 where
+  pub ends : (at : ℕ) → length s ≤ at → read at ≡ ended
+  pub grows : (at place n next : ℕ) → read at ≡ found place n next → at < next
+  pub least : (at place n next : ℕ) → read at ≡ found place n next → at + header ≤ next
+  pub behind : (at place n next : ℕ) → read at ≡ found place n next → next ≡ place + n
+  pub inside : (at place n next : ℕ) → read at ≡ found place n next → next ≤ length s
+  pub within : (at place n next : ℕ) → read at ≡ found place n next → n ≤ limit

@@ -13,7 +13,7 @@ use Rattle.trace_layout.proofs.Readback.{trace_layout}
 use Rattle.pcap_fields.specs.declared.Order.{Order}
 use Rattle.pcap_records.specs.Records.{said, record_at}
 use Rattle.pcap_records.proofs.Laws.{read_end}
-use Rattle.pcap_lists.proofs.Inside.{Inside, found_inside, capture_reading}
+use Rattle.pcap_records.proofs.Inside.{Inside, found_inside, capture_reading}
 use Rattle.pcap_contents.proofs.Turns.{first_length, turn, ends, no_capture_record}
 use Rattle.pcap_contents.proofs.put_trace.Invariants.{remaining}
 use Rattle.pcap_contents.proofs.put_trace.Goals as goal

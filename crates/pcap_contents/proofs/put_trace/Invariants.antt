@@ -9,7 +9,7 @@ use Rattle.trace_layout.proofs.Readback.{trace_layout}
 use Rattle.pcap_fields.specs.declared.Order.{Order}
 use Rattle.pcap_records.specs.Records.{record_at}
 use Rattle.pcap_lists.specs.Lists.{records_in}
-use Rattle.pcap_lists.proofs.Inside.{capture_reading}
+use Rattle.pcap_records.proofs.Inside.{capture_reading}
 use Rattle.pcap_contents.proofs.Turns.{left_from}
 use Rattle.pcap_contents.proofs.put_trace.Given as goal
 

@@ -10,7 +10,7 @@ use lib.Dec.{ltb, eqb}
 use lib.ListN.{length}
 use Rattle.trace.specs.Trace.{limit, found, ended, left}
 use Rattle.trace_layout.proofs.Inside.{passed, over}
-use Rattle.trace_layout.proofs.Rest.{Reading}
+use Rattle.trace_layout.specs.Layout.{Reading}
 use Rattle.pcap_fields.specs.declared.Order.{Order}
 use Rattle.pcap_records.specs.Records.{header, stored_at, original_at, record_at}
 use Rattle.pcap_records.proofs.Laws.{read_end}
@@ -46,4 +46,8 @@ capture_reading o s =
     record {
       ends = λ at h. read_end o s at h;
       grows = λ at place n next e. let w = found_inside o s at place n next e in omega arith;
+      least = λ at place n next e. let w = found_inside o s at place n next e in omega arith;
+      behind = λ at place n next e. (found_inside o s at place n next e).next_behind;
+      inside = λ at place n next e. (found_inside o s at place n next e).inside;
+      within = λ at place n next e. (found_inside o s at place n next e).within;
     }
