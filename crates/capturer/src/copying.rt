@@ -1,5 +1,7 @@
 // One file made from the other, record by record. Memory does not grow with them: a window of what is read, one frame in assembly and some
 // records to be written are kept.
+ghost use Rattle.std.specs.Prelude.{◌+◌, ◌≤◌};
+
 use crate::trouble::{File, RefusedCapture, Trouble};
 use mframe::BODY_MOST;
 use pcap_fields::Order;
