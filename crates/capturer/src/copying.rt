@@ -1,16 +1,20 @@
 // One file made from the other, record by record. Memory does not grow with them: a window of what is read, one frame in assembly and some
 // records to be written are kept.
-ghost use Rattle.std.specs.Prelude.{◌+◌, ◌≤◌, length};
+ghost use Rattle.std.specs.Prelude.{◌+◌, ◌≤◌};
 
-use crate::trouble::{File, Trouble};
+use crate::trouble::{File, RefusedCapture, Trouble};
 use mframe::BODY_MOST;
 use pcap_fields::Order;
 use pcap_records::FILE_HEADER;
 use receiver_record::Record;
+use sentences::RefusedRecord;
 use std::fs;
-use std::io::{Read, Write};
-use trace::{Cursor, LIMIT};
-use windows::{LONGEST, front, part};
+use std::io::Read;
+use trace::{Cursor, LIMIT, Span};
+use windows::{LONGEST, Waiting, Window, front, part};
+
+// The octets of the window, and of what waits to be written.
+const ROOM: usize = 65536;
 
 // What stands next in the input.
 #[derive(Clone, Copy)]
@@ -22,21 +26,6 @@ enum Next {
     CaptureRecord(Order),
 }
 
-// Where the copying stands: the receiver's record, by which a capture for eyes is made, what comes next, its number if it is a record, the part of
-// the window not yet read, whether nothing more comes, how many octets wait to be written, what is wrong, and whether anything is left to do.
-#[derive(Clone, Copy)]
-struct Standing {
-    receiver: Record,
-    next: Next,
-    number: u64,
-    from: usize,
-    to: usize,
-    ended: bool,
-    waiting: usize,
-    trouble: Trouble,
-    going: bool,
-}
-
 // What was found at the window's front.
 #[derive(Clone, Copy)]
 enum Found {
@@ -46,223 +35,158 @@ enum Found {
     FileHeader(Order),
     // A good record: where its content begins and ends.
     Record { start: usize, end: usize },
-    Refused(Trouble),
     End,
 }
 
-fn find_header(octets: &[u8]) -> Found {
-    match pcap_records::open(octets) {
-        Ok(order) => Found::FileHeader(order),
-        Err(why) => Found::Refused(Trouble::Capture { number: 0, why }),
+impl From<Option<Span>> for Found {
+    fn from(record: Option<Span>) -> Found {
+        match record {
+            Some(span) => Found::Record {
+                start: span.start,
+                end: span.next,
+            },
+            None => Found::End,
+        }
     }
 }
 
-fn find_in_trace(octets: &[u8], at: usize, number: u64) -> Found {
-    let cursor = Cursor { at };
-    match cursor.read(octets) {
-        Ok(Some(span)) => Found::Record {
-            start: span.start,
-            end: span.next,
-        },
-        Ok(None) => Found::End,
-        Err(why) => Found::Refused(Trouble::Trace { number, why }),
-    }
-}
-
-fn find_in_capture(order: Order, octets: &[u8], at: usize, number: u64) -> Found {
-    match pcap_records::record_at(order, octets, at) {
-        Ok(Some(span)) => Found::Record {
-            start: span.start,
-            end: span.next,
-        },
-        Ok(None) => Found::End,
-        Err(why) => Found::Refused(Trouble::Capture { number, why }),
-    }
-}
-
-fn find(s: Standing, window: &[u8]) -> Found {
-    if !s.ended && part(window, s.from, s.to).len() < LONGEST {
-        return Found::Part;
-    }
-    let octets = front(window, s.to);
-    let next = s.next;
-    match next {
-        Next::FileHeader => find_header(octets),
-        Next::TraceRecord => find_in_trace(octets, s.from, s.number),
-        Next::CaptureRecord(order) => find_in_capture(order, octets, s.from, s.number),
-    }
-}
-
-// Nothing is left to do.
-fn stop(s: Standing, trouble: Trouble) -> Standing {
-    Standing {
-        trouble,
-        going: false,
-        ..s
-    }
-}
-
-// One more read. Where it fails, what was read before is not made into anything.
-fn read_on<R: Read>(s: Standing, input: &mut R, window: &mut [u8]) -> Standing {
-    let filled = windows::read_on(input, window, s.from, s.to);
-    if filled.failed {
-        return stop(s, Trouble::Unread);
-    }
-    Standing {
-        from: 0,
-        to: filled.to,
-        ended: filled.ended,
-        ..s
-    }
-}
-
-// Behind a capture's header: its records.
-fn open(s: Standing, order: Order) -> Standing {
-    Standing {
-        next: Next::CaptureRecord(order),
-        from: FILE_HEADER,
-        ..s
-    }
-}
-
-// What a record makes: the receiver's record after it, which stays as it is where nothing is made for eyes, and the place behind it.
-#[derive(Clone, Copy)]
-struct Put {
-    receiver: Record,
-    end: usize,
-}
-
-// A record of the file that is made.
-fn put_record(
+// Where the copying stands: the file that is made, the receiver's record, by which a capture for eyes is made, its assembly buffer, what comes
+// next, its number if it is a record, the part of the input that was read and not yet copied, and what waits to be written.
+#[derive(Drop)]
+struct Copying {
     made: File,
-    content: &[u8],
     receiver: Record,
-    assembly: &mut [u8],
-    out: &mut [u8],
-    at: usize,
-) -> Put
-    requires { (length content.now ≤ 1600) × (at + 1616 ≤ length out.old) }
-{
-    let in_trace = at + trace::HEADER + content.len();
-    let in_capture = at + pcap_records::HEADER + content.len();
-    match made {
-        File::Trace => {
-            pcap_headers::put_trace_record(content, out, at);
-            Put {
-                receiver,
-                end: in_trace,
+    assembly: [u8; BODY_MOST],
+    next: Next,
+    number: u64,
+    window: Window<ROOM>,
+    out: Waiting<ROOM>,
+}
+
+impl Copying {
+    // Before the first record: a capture that is made begins with its header, and so does one that is read.
+    fn new(made: File) -> Copying {
+        let mut octets = [0u8; ROOM];
+        let (next, end) = match made {
+            File::Trace => (Next::FileHeader, 0),
+            File::Capture | File::CaptureForEyes => {
+                pcap_headers::put_file_header(&mut octets);
+                (Next::TraceRecord, FILE_HEADER)
+            }
+        };
+        Copying {
+            made,
+            receiver: Record::fresh(),
+            assembly: [0; BODY_MOST],
+            next,
+            number: 1,
+            window: Window::new(),
+            out: Waiting { octets, end },
+        }
+    }
+
+    fn find(&self) -> Result<Found, Trouble> {
+        if self.window.is_short() {
+            return Ok(Found::Part);
+        }
+        let octets = self.window.rest();
+        let number = self.number;
+        match self.next {
+            Next::FileHeader => match pcap_records::open(octets) {
+                Ok(order) => Ok(Found::FileHeader(order)),
+                Err(why) => Err(Trouble::Capture(RefusedCapture { number: 0, why })),
+            },
+            Next::TraceRecord => match (Cursor { at: 0 }).read(octets) {
+                Ok(record) => Ok(Found::from(record)),
+                Err(why) => Err(Trouble::Trace(RefusedRecord { number, why })),
+            },
+            Next::CaptureRecord(order) => match pcap_records::record_at(order, octets, 0) {
+                Ok(record) => Ok(Found::from(record)),
+                Err(why) => Err(Trouble::Capture(RefusedCapture { number, why })),
+            },
+        }
+    }
+
+    // A record of the file that is made, behind what waits.
+    fn put(&mut self, start: usize, end: usize)
+        requires { self.old.out.end + 1616 ≤ 65536 }
+    {
+        let content = front(part(self.window.rest(), start, end), LIMIT);
+        let out = &mut self.out;
+        let at = out.end;
+        let in_capture = at + pcap_records::HEADER + content.len();
+        match self.made {
+            File::Trace => {
+                pcap_headers::put_trace_record(content, &mut out.octets, at);
+                out.end = at + trace::HEADER + content.len();
+            }
+            File::Capture => {
+                pcap_headers::put_capture_record(content, &mut out.octets, at);
+                out.end = in_capture;
+            }
+            File::CaptureForEyes => {
+                self.receiver = eyes_records::put_shown_record(
+                    content,
+                    self.receiver,
+                    &mut self.assembly,
+                    &mut out.octets,
+                    at,
+                );
+                out.end = in_capture;
             }
         }
-        File::Capture => {
-            pcap_headers::put_capture_record(content, out, at);
-            Put {
-                receiver,
-                end: in_capture,
+    }
+
+    // A good record, whose content lies here in the window.
+    fn copy_record(
+        &mut self,
+        output: &mut fs::File,
+        start: usize,
+        end: usize,
+    ) -> Result<(), Trouble> {
+        self.out.make_room(LONGEST, output)?;
+        self.put(start, end);
+        self.number = std::num::wrapping_add_u64(self.number, 1);
+        self.window.pass(end);
+        Ok(())
+    }
+
+    // The end of the input: what waits is written, and all of it reaches the disk.
+    fn finish(&mut self, output: &mut fs::File) -> Result<(), Trouble> {
+        self.out.write(output)?;
+        output.sync_all().map_err(|_| Trouble::Unwritten)
+    }
+
+    // Copies what stands at the window's front, or reads on; whether more is to come. Where a read fails, what was read before is not made into
+    // anything.
+    fn turn<R: Read>(&mut self, input: &mut R, output: &mut fs::File) -> Result<bool, Trouble> {
+        match self.find()? {
+            Found::Part => self.window.read_on(input).map_err(|_| Trouble::Unread)?,
+            Found::FileHeader(order) => {
+                self.next = Next::CaptureRecord(order);
+                self.window.pass(FILE_HEADER);
+            }
+            Found::Record { start, end } => self.copy_record(output, start, end)?,
+            Found::End => {
+                self.finish(output)?;
+                return Ok(false);
             }
         }
-        File::CaptureForEyes => Put {
-            receiver: eyes_records::put_shown_record(content, receiver, assembly, out, at),
-            end: in_capture,
-        },
+        Ok(true)
     }
 }
 
-// A good record, whose content ends at this place of the window.
-fn copy_record(
-    s: Standing,
-    made: File,
-    output: &mut fs::File,
-    content: &[u8],
-    end: usize,
-    assembly: &mut [u8; BODY_MOST],
-    out: &mut [u8; 65536],
-) -> Standing {
-    let place = windows::place_for(output, out, s.waiting, LONGEST);
-    if !place.free {
-        return stop(s, Trouble::Unwritten);
-    }
-    let before = s.receiver;
-    let put = put_record(made, front(content, LIMIT), before, assembly, out, place.at);
-    let receiver = put.receiver;
-    Standing {
-        receiver,
-        number: std::num::wrapping_add_u64(s.number, 1),
-        from: end,
-        waiting: put.end,
-        ..s
-    }
-}
-
-// The end of the input: what waits is written, and all of it reaches the disk.
-fn finish(s: Standing, output: &mut fs::File, out: &[u8]) -> Standing {
-    if output.write_all(front(out, s.waiting)).is_ok() && output.sync_all().is_ok() {
-        return stop(s, Trouble::None);
-    }
-    stop(s, Trouble::Unwritten)
-}
-
-fn turn<R: Read>(
-    s: Standing,
+// The turns, or what is wrong. A proved loop has to end, and nothing says that the input does: it has more turns than any input.
+pub(crate) fn copy_all<R: Read>(
     made: File,
     input: &mut R,
     output: &mut fs::File,
-    window: &mut [u8; 65536],
-    assembly: &mut [u8; BODY_MOST],
-    out: &mut [u8; 65536],
-) -> Standing {
-    let found = find(s, window);
-    match found {
-        Found::Part => read_on(s, input, window),
-        Found::FileHeader(order) => open(s, order),
-        Found::Record { start, end } => copy_record(
-            s,
-            made,
-            output,
-            part(window, start, end),
-            end,
-            assembly,
-            out,
-        ),
-        Found::Refused(trouble) => stop(s, trouble),
-        Found::End => finish(s, output, out),
-    }
-}
-
-// Before the first record: a capture that is made begins with its header, and so does one that is read.
-fn begin(made: File, out: &mut [u8; 65536]) -> Standing {
-    let mut next = Next::TraceRecord;
-    let mut waiting = FILE_HEADER;
-    if let File::Trace = made {
-        next = Next::FileHeader;
-        waiting = 0;
-    } else {
-        pcap_headers::put_file_header(out);
-    }
-    Standing {
-        receiver: Record::fresh(),
-        next,
-        number: 1,
-        from: 0,
-        to: 0,
-        ended: false,
-        waiting,
-        trouble: Trouble::None,
-        going: true,
-    }
-}
-
-// The turns, and what was wrong. A proved loop has to end, and nothing says that the input does: it has more turns than any
-// input.
-pub(crate) fn copy_all<R: Read>(made: File, input: &mut R, output: &mut fs::File) -> Trouble {
-    let mut window = [0u8; 65536];
-    let mut assembly = [0u8; BODY_MOST];
-    let mut out = [0u8; 65536];
-    let mut s = begin(made, &mut out);
+) -> Result<(), Trouble> {
+    let mut copying = Copying::new(made);
     for _ in 0..u64::MAX {
-        s = turn(s, made, input, output, &mut window, &mut assembly, &mut out);
-        if !s.going {
-            return s.trouble;
+        if !copying.turn(input, output)? {
+            return Ok(());
         }
     }
-    Trouble::Unread
+    Err(Trouble::Unread)
 }

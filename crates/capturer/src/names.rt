@@ -11,11 +11,6 @@ pub(crate) fn text_of(name: &[u8]) -> &str {
     str::from_utf8(name).unwrap_or("")
 }
 
-// Whether two words are the same.
-pub(crate) fn same(a: &[u8], b: &[u8]) -> bool {
-    a == b
-}
-
 // Whether a link stands at a name.
 fn is_link(rt: HostRuntime, name: &str) -> bool {
     match fs::symlink_metadata(&rt, name) {

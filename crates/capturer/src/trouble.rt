@@ -1,7 +1,7 @@
 // What can be wrong, and what is said of it on standard error.
-ghost use Rattle.std.specs.Prelude.{◌≤◌, length};
-
-use sentences::{say, say_number};
+use programs::Unwritten;
+use sentences::RefusedRecord;
+use std::fmt;
 
 // The files: a trace, which is made from a capture, and the plain capture and the one for eyes, each of which is made from a trace.
 #[derive(Clone, Copy)]
@@ -21,10 +21,59 @@ impl File {
     }
 }
 
+impl fmt::Display for File {
+    fn fmt<W: fmt::Write>(&self, f: &mut fmt::Formatter<W>) -> fmt::Result {
+        f.write_str(match self {
+            File::Trace => "the trace",
+            File::Capture | File::CaptureForEyes => "the capture",
+        })
+    }
+}
+
+// A refused capture, or a refused record of it, with its number: 70 to 73 of the file, 74 to 77 of a record.
+#[derive(Clone, Copy)]
+pub(crate) struct RefusedCapture {
+    pub(crate) number: u64,
+    pub(crate) why: pcap_records::Refusal,
+}
+
+impl fmt::Display for RefusedCapture {
+    fn fmt<W: fmt::Write>(&self, f: &mut fmt::Formatter<W>) -> fmt::Result {
+        let number = self.number;
+        match self.why {
+            pcap_records::Refusal::FileHeader => f.write_str(
+                "the capture is cut off: it ends inside its header of 24 octets (70).",
+            ),
+            pcap_records::Refusal::Magic => f.write_str(
+                "this is no pcap file with times in microseconds: it begins with A1B2C3D4 in neither byte order (71).",
+            ),
+            pcap_records::Refusal::Version => f.write_str("the capture's version is not 2.4 (72)."),
+            pcap_records::Refusal::LinkType => f.write_str(
+                "the capture's link type is not 274, Ethernet mPackets (73).",
+            ),
+            pcap_records::Refusal::Header => write!(
+                f,
+                "record {number} is cut off: the capture ends inside its header (74)."
+            ),
+            pcap_records::Refusal::Length => write!(
+                f,
+                "record {number} says that more than 1,600 octets of it are stored (75)."
+            ),
+            pcap_records::Refusal::Original => write!(
+                f,
+                "record {number} was not stored whole: its stored and its original length differ (76)."
+            ),
+            pcap_records::Refusal::Content => write!(
+                f,
+                "record {number} is cut off: the capture ends inside its content (77)."
+            ),
+        }
+    }
+}
+
 // Why a file is not made.
 #[derive(Clone, Copy)]
 pub(crate) enum Trouble {
-    None,
     SameName,
     // Of what it is made from.
     Unopened,
@@ -35,117 +84,45 @@ pub(crate) enum Trouble {
     Unmade,
     Unwritten,
     Unnamed,
-    // A refused record, with its number.
-    Trace {
-        number: u64,
-        why: trace::Refusal,
-    },
-    // A refused capture, or a refused record of it, with its number.
-    Capture {
-        number: u64,
-        why: pcap_records::Refusal,
-    },
+    // A refused record of a trace.
+    Trace(RefusedRecord),
+    Capture(RefusedCapture),
 }
 
-impl Trouble {
-    // Says it, where there is something to say, of the file that was to be made.
-    pub(crate) fn say(self, rt: HostRuntime, made: File) {
-        match self {
-            Trouble::None => {}
-            Trouble::SameName => say(
-                rt,
-                b"mmpcap: ",
-                b"the trace and the capture",
-                b" have the same name.\n",
+impl From<Unwritten> for Trouble {
+    fn from(_why: Unwritten) -> Trouble {
+        Trouble::Unwritten
+    }
+}
+
+// A file that was to be made, and why it is not.
+#[derive(Clone, Copy)]
+pub(crate) struct NotMade {
+    pub(crate) file: File,
+    pub(crate) why: Trouble,
+}
+
+impl fmt::Display for NotMade {
+    fn fmt<W: fmt::Write>(&self, f: &mut fmt::Formatter<W>) -> fmt::Result {
+        let file = self.file;
+        let source = file.other();
+        match self.why {
+            Trouble::SameName => f.write_str("the trace and the capture have the same name."),
+            Trouble::Unopened => write!(f, "{source} could not be opened."),
+            Trouble::Unread => write!(f, "{source} could not be read."),
+            Trouble::Terminal => write!(
+                f,
+                "{source} is a terminal; name a file, or give it on standard input."
             ),
-            Trouble::Unopened => tell(rt, b"mmpcap: ", made.other(), b" could not be opened.\n"),
-            Trouble::Unread => tell(rt, b"mmpcap: ", made.other(), b" could not be read.\n"),
-            Trouble::Terminal => tell(
-                rt,
-                b"mmpcap: ",
-                made.other(),
-                b" is a terminal; name a file, or give it on standard input.\n",
+            Trouble::Taken => write!(
+                f,
+                "the name of {file} is taken by what is no file that may be written."
             ),
-            Trouble::Taken => tell(
-                rt,
-                b"mmpcap: the name of ",
-                made,
-                b" is taken by what is no file that may be written.\n",
-            ),
-            Trouble::Unmade => tell(rt, b"mmpcap: no file could be made beside ", made, b".\n"),
-            Trouble::Unwritten => tell(rt, b"mmpcap: ", made, b" could not be written.\n"),
-            Trouble::Unnamed => tell(rt, b"mmpcap: ", made, b" could not be given its name.\n"),
-            Trouble::Trace { number, why } => {
-                sentences::say_refused(rt, b"mmpcap: record ", number, why)
-            }
-            Trouble::Capture { number, why } => refused(rt, number, why),
+            Trouble::Unmade => write!(f, "no file could be made beside {file}."),
+            Trouble::Unwritten => write!(f, "{file} could not be written."),
+            Trouble::Unnamed => write!(f, "{file} could not be given its name."),
+            Trouble::Trace(record) => write!(f, "{record}"),
+            Trouble::Capture(refused) => write!(f, "{refused}"),
         }
     }
-}
-
-// A sentence about one of the files.
-fn tell(rt: HostRuntime, before: &[u8], file: File, behind: &[u8])
-    requires { (length before.now ≤ 60) × (length behind.now ≤ 80) }
-{
-    match file {
-        File::Trace => say(rt, before, b"the trace", behind),
-        File::Capture | File::CaptureForEyes => say(rt, before, b"the capture", behind),
-    }
-}
-
-// Why a capture is refused: 70 to 73 of the file, 74 to 77 of a record.
-fn refused(rt: HostRuntime, number: u64, why: pcap_records::Refusal) {
-    match why {
-        pcap_records::Refusal::FileHeader => tell(
-            rt,
-            b"mmpcap: ",
-            File::Capture,
-            b" is cut off: it ends inside its header of 24 octets (70).\n",
-        ),
-        pcap_records::Refusal::Magic => say(
-            rt,
-            b"mmpcap: this is no pcap file with times in microseconds: ",
-            b"it begins with A1B2C3D4 ",
-            b"in neither byte order (71).\n",
-        ),
-        pcap_records::Refusal::Version => tell(
-            rt,
-            b"mmpcap: ",
-            File::Capture,
-            b"'s version is not 2.4 (72).\n",
-        ),
-        pcap_records::Refusal::LinkType => tell(
-            rt,
-            b"mmpcap: ",
-            File::Capture,
-            b"'s link type is not 274, Ethernet mPackets (73).\n",
-        ),
-        pcap_records::Refusal::Header => record(
-            rt,
-            number,
-            b" is cut off: the capture ends inside its header (74).\n",
-        ),
-        pcap_records::Refusal::Length => record(
-            rt,
-            number,
-            b" says that more than 1,600 octets of it are stored (75).\n",
-        ),
-        pcap_records::Refusal::Original => record(
-            rt,
-            number,
-            b" was not stored whole: its stored and its original length differ (76).\n",
-        ),
-        pcap_records::Refusal::Content => record(
-            rt,
-            number,
-            b" is cut off: the capture ends inside its content (77).\n",
-        ),
-    }
-}
-
-// A sentence about a record of a capture.
-fn record(rt: HostRuntime, number: u64, why: &[u8])
-    requires { length why.now ≤ 80 }
-{
-    say_number(rt, b"mmpcap: record ", number, why);
 }

@@ -1,30 +1,20 @@
 // What is said on standard error of a trace that is listed no further, once its listing is written.
-use std::io::Print;
-use trace::Refusal;
+use sentences::RefusedRecord;
+use std::fmt;
 
 // Why a trace is listed no further.
 #[derive(Clone, Copy)]
 pub(crate) enum Trouble {
-    None,
     // The input could not be read.
     Unread,
-    // A record is refused.
-    Refused(Refusal),
+    Refused(RefusedRecord),
 }
 
-impl Trouble {
-    // Says it, where there is something to say; the number is that of the record that was to be listed.
-    pub(crate) fn say(self, rt: HostRuntime, number: u64) {
+impl fmt::Display for Trouble {
+    fn fmt<W: fmt::Write>(&self, f: &mut fmt::Formatter<W>) -> fmt::Result {
         match self {
-            Trouble::None => {}
-            Trouble::Unread => {
-                let _ = rt
-                    .stderr()
-                    .write_all(b"mmlist: the trace could not be read.\n");
-            }
-            Trouble::Refused(refusal) => {
-                sentences::say_refused(rt, b"mmlist: record ", number, refusal)
-            }
+            Trouble::Unread => f.write_str("the trace could not be read."),
+            Trouble::Refused(record) => write!(f, "{record}"),
         }
     }
 }

@@ -1,11 +1,13 @@
-// What a program of constant memory reads and writes files of any size by: a window over the one, room for a piece of the other, and parts of a
-// slice that are always there.
+// What a program of constant memory reads and writes files of any size by: a window over the one, what waits to be written to the other, and
+// parts of a slice that are always there.
 #![tactic(auto)]
 
-ghost use Rattle.std.specs.Prelude.{◌+◌, ◌≤◌, length};
+ghost use Rattle.std.specs.Prelude.{◌≡◌, ◌+◌, ◌≤◌, ◌<◌, ◌↔◌, ℕ, Bool, true, false, List, [], IsTrue, OnOk, OnErr, length, drop, slice_range};
 
+use programs::Unwritten;
 use std::io;
-use std::io::{ErrorKind, Read, Write};
+use std::io::{Read, Write};
+use std::marker::Model;
 
 // The octets of the longest record, one of a capture, with its header: where so many are in the window, or the input has ended, a record of a
 // trace or of a capture, and a capture's header, read as in the whole input (the theorems of captures, Window).
@@ -34,66 +36,113 @@ pub fn part(s: &[u8], from: usize, to: usize) -> &[u8]
     &s[from..to]
 }
 
-// A window after one more read: where its octets end, whether nothing more comes, and whether the read failed, behind which nothing comes either.
+// A window over an input: the octets of it that were read and are not yet used, and whether nothing comes behind them.
 #[derive(Drop)]
-pub struct Filled {
-    pub to: usize,
-    pub ended: bool,
-    pub failed: bool,
+pub struct Window<const N: usize> {
+    octets: [u8; N],
+    from: usize,
+    to: usize,
+    ended: bool,
 }
 
-// One more read behind what is left in the window, from one place up to another, which goes to its front. Nobody reads on while so many
-// octets are left as the longest record has.
-pub fn read_on<R: Read>(input: &mut R, window: &mut [u8], from: usize, to: usize) -> Filled
-    ensures { result.to ≤ length window.old }
-{
-    let mut spare = [0u8; LONGEST];
-    let rest = front(part(window, from, to), LONGEST);
-    let left = rest.len();
-    octets::copy_into(rest, &mut spare, 0);
-    octets::copy_into(front(&spare, left), window, 0);
-    match input.read(&mut window[left..]) {
-        Ok(more) => Filled {
-            to: left + more,
-            ended: more == 0,
-            failed: false,
-        },
-        Err(_) => Filled {
-            to: left,
-            ended: true,
-            failed: true,
-        },
+// Clauses see the octets that are left, and whether nothing comes behind them.
+impl<const N: usize> Model for Window<N> {
+    ghost Value = { List ℕ × Bool };
+
+    ghost view = { λ w. (slice_range w.octets w.from w.to, w.ended) };
+
+    ghost invariant = { λ w. (w.from ≤ w.to) × (w.to ≤ N) };
+}
+
+impl<const N: usize> Window<N> {
+    // Before the first read.
+    pub fn new() -> Self
+        ensures { result ≡ ([], false) }
+    {
+        Window {
+            octets: [0; N],
+            from: 0,
+            to: 0,
+            ended: false,
+        }
+    }
+
+    // The octets that are left.
+    pub fn rest(&self) -> &[u8]
+        ensures { result.now ≡ self.now.0 }
+    {
+        let octets = &self.octets[..];
+        &octets[self.from..self.to]
+    }
+
+    // Whether what is left is too little to tell what stands at its front.
+    pub fn is_short(&self) -> bool
+        ensures { IsTrue result ↔ (self.now.1 ≡ false) × (length self.now.0 < 1616) }
+    {
+        !self.ended && self.to - self.from < LONGEST
+    }
+
+    // So many octets are used, or all where there are fewer.
+    #[tactic(auto, using(crate::proofs::Laws::part_behind))]
+    pub fn pass(&mut self, n: usize)
+        ensures { self.new ≡ (drop n self.old.0, self.old.1) }
+    {
+        if n < self.to - self.from {
+            self.from += n;
+        } else {
+            self.from = self.to;
+        }
+    }
+
+    // One more read behind what is left, which goes to the window's front. Behind a read that fails nothing comes.
+    pub fn read_on<R: Read>(&mut self, input: &mut R) -> io::Result<()>
+        ensures { OnErr result (self.new.1 ≡ true) }
+    {
+        let left = self.to - self.from;
+        let octets = &mut self.octets[..];
+        octets.copy_within(self.from..self.to, 0);
+        let read = input.read(&mut octets[left..]);
+        self.from = 0;
+        self.to = left;
+        match read {
+            Ok(more) => {
+                self.to = left + more;
+                self.ended = more == 0;
+                Ok(())
+            }
+            Err(error) => {
+                self.ended = true;
+                Err(error)
+            }
+        }
     }
 }
 
-// Whether an output could not be written for want of a reader.
-pub fn is_gone(written: &io::Result<()>) -> bool {
-    matches!(written, Err(error) if error.kind() == ErrorKind::BrokenPipe)
-}
-
-// The place for a piece of output: behind what waits, or at the front once that is written, if it could be; and whether nobody reads any more.
+// What waits to be written: the first octets of its memory, up to a place.
 #[derive(Drop)]
-pub struct Place {
-    pub at: usize,
-    pub free: bool,
-    pub gone: bool,
+pub struct Waiting<const N: usize> {
+    pub octets: [u8; N],
+    pub end: usize,
 }
 
-pub fn place_for<W: Write>(output: &mut W, out: &[u8], waiting: usize, room: usize) -> Place
-    requires { room ≤ length out.now }
-    ensures { result.at + room ≤ length out.now }
-{
-    if waiting <= out.len() - room {
-        return Place {
-            at: waiting,
-            free: true,
-            gone: false,
-        };
+impl<const N: usize> Waiting<N> {
+    // Makes room for a piece: behind what waits, or at the front once that is written.
+    pub fn make_room<W: Write>(&mut self, room: usize, output: &mut W) -> Result<(), Unwritten>
+        requires { room ≤ N }
+        ensures { OnOk result (self.new.end + room ≤ N) }
+    {
+        if self.end <= N - room {
+            return Ok(());
+        }
+        self.write(output)
     }
-    let written = output.write_all(front(out, waiting));
-    Place {
-        at: 0,
-        free: written.is_ok(),
-        gone: is_gone(&written),
+
+    // Writes all that waits.
+    pub fn write<W: Write>(&mut self, output: &mut W) -> Result<(), Unwritten>
+        ensures { OnOk result (self.new.end ≡ 0) }
+    {
+        output.write_all(front(&self.octets, self.end))?;
+        self.end = 0;
+        Ok(())
     }
 }

@@ -1,0 +1,163 @@
+// The listing of a trace, line by line.
+ghost use Rattle.std.specs.Prelude.{◌+◌, ◌≤◌, length};
+
+use crate::trouble::Trouble;
+use mframe::BODY_MOST;
+use programs::Unwritten;
+use receiver_record::Record;
+use sentences::RefusedRecord;
+use std::io::Print;
+use trace::{Cursor, Refusal};
+use windows::{Waiting, Window, part};
+
+// The longest line.
+const LINE: usize = 88;
+
+// The octets of the window, and of the text that waits to be written.
+const ROOM: usize = 65536;
+
+// Where the listing stands: the receiving record, its assembly buffer, the next record's number, the part of the trace that was read and not yet
+// listed, the text that waits to be written, and why the trace is listed no further.
+#[derive(Drop)]
+pub(crate) struct Listing {
+    receiver: Record,
+    assembly: [u8; BODY_MOST],
+    number: u64,
+    window: Window<ROOM>,
+    text: Waiting<ROOM>,
+    trouble: Option<Trouble>,
+}
+
+// What stands at the window's front.
+#[derive(Clone, Copy)]
+enum Found {
+    // Too little to tell.
+    Part,
+    // A good record: where its content begins and ends.
+    Record { start: usize, end: usize },
+    Refused(Refusal),
+    End,
+}
+
+impl Listing {
+    // Before the first record: the receiver is fresh, and the title waits.
+    fn new() -> Listing {
+        let mut octets = [0u8; ROOM];
+        let end = lines::title(&mut octets, 0);
+        Listing {
+            receiver: Record::fresh(),
+            assembly: [0; BODY_MOST],
+            number: 1,
+            window: Window::new(),
+            text: Waiting { octets, end },
+            trouble: None,
+        }
+    }
+
+    // A refused record. Where the input failed, nothing is known of a record that it did not give whole: that one is not refused.
+    fn refused(&self, why: Refusal) -> Found {
+        match why {
+            Refusal::Header | Refusal::Content if self.trouble.is_some() => Found::End,
+            _ => Found::Refused(why),
+        }
+    }
+
+    fn find(&self) -> Found {
+        if self.window.is_short() {
+            return Found::Part;
+        }
+        match (Cursor { at: 0 }).read(self.window.rest()) {
+            Ok(Some(span)) => Found::Record {
+                start: span.start,
+                end: span.next,
+            },
+            Ok(None) => Found::End,
+            Err(why) => self.refused(why),
+        }
+    }
+
+    // One more read. Behind one that fails nothing comes; what was read before is listed all the same.
+    fn read_on(&mut self, rt: HostRuntime) {
+        if self.window.read_on(&mut rt.stdin()).is_err() {
+            self.trouble = Some(Trouble::Unread);
+        }
+    }
+
+    // A good record, whose content lies here in the window: given to the receiver, and its line.
+    fn list_record(&mut self, rt: HostRuntime, start: usize, end: usize) -> Result<(), Unwritten> {
+        self.text.make_room(LINE, &mut rt.stdout())?;
+        let content = part(self.window.rest(), start, end);
+        let text = &mut self.text;
+        let listed = listing::list(
+            self.number,
+            content,
+            self.receiver,
+            &mut self.assembly,
+            &mut text.octets,
+            text.end,
+        );
+        self.receiver = listed.after;
+        self.text.end = listed.next;
+        self.number = std::num::wrapping_add_u64(self.number, 1);
+        self.window.pass(end);
+        Ok(())
+    }
+
+    // A refused record: its line, and nothing is read behind it.
+    fn stop(&mut self, rt: HostRuntime, why: Refusal) -> Result<(), Unwritten> {
+        self.text.make_room(LINE, &mut rt.stdout())?;
+        let number = self.number;
+        let text = &mut self.text;
+        text.end = lines::stop_line(number, why.number() as u64, &mut text.octets, text.end);
+        self.trouble = Some(Trouble::Refused(RefusedRecord { number, why }));
+        Ok(())
+    }
+
+    // The last line, written with all that waits.
+    fn finish(&mut self, rt: HostRuntime) -> Result<(), Unwritten> {
+        self.text.make_room(LINE, &mut rt.stdout())?;
+        let counters = self.receiver.counters;
+        let text = &mut self.text;
+        text.end = lines::end_line(
+            u64::from(counters.errors),
+            u64::from(counters.delimiters),
+            u64::from(counters.assembled),
+            u64::from(counters.fragments),
+            &mut text.octets,
+            text.end,
+        );
+        self.text.write(&mut rt.stdout())
+    }
+
+    // Lists what stands at the window's front, or reads on; whether more is to come.
+    fn turn(&mut self, rt: HostRuntime) -> Result<bool, Unwritten> {
+        match self.find() {
+            Found::Part => {
+                self.read_on(rt);
+                Ok(true)
+            }
+            Found::Record { start, end } => {
+                self.list_record(rt, start, end)?;
+                Ok(true)
+            }
+            Found::Refused(why) => {
+                self.stop(rt, why)?;
+                Ok(false)
+            }
+            Found::End => Ok(false),
+        }
+    }
+}
+
+// The listing of standard input, on standard output; why it goes no further, if anything is wrong with the trace. A proved loop has to end, and
+// nothing says that the input does: it has more turns than any input.
+pub(crate) fn list_all(rt: HostRuntime) -> Result<Option<Trouble>, Unwritten> {
+    let mut listing = Listing::new();
+    for _ in 0..u64::MAX {
+        if !listing.turn(rt)? {
+            break;
+        }
+    }
+    listing.finish(rt)?;
+    Ok(listing.trouble)
+}
