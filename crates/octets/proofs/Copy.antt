@@ -1,21 +1,30 @@
--- Four octets stored; what is left of a copy, after one octet and after some; and a copy into a lent part.
+-- Four octets copied; what is left of a copy, after one octet and after some; and a copy into a lent part.
 -- Assumes nothing.
-use mathlib.Core.Path.{◌≡◌, refl, sym, ap, ◌∙◌}
+use mathlib.Core.Path.{◌≡◌, refl, sym, ap, ap₂, ◌∙◌}
 use mathlib.Core.List.{List, [], ◌∷◌, ◌++◌, append_assoc, append-nil}
-use Prim.Native.Nat.{ℕ, ◌+◌, ◌-◌, ◌≤◌, ◌<◌}
+use Prim.Native.Nat.{ℕ, ◌+◌, ◌-◌, ◌*◌, ◌/◌, ◌≤◌, ◌<◌}
 use borrow.Rule.Slice.PartMut.{put_mid, mid_of}
 use native.Mathlib.Omega.{arith}
-use native.Mathlib.Numerals.{add-one, add-two, add-three}
+use native.Mathlib.Numerals.{add-one}
 use lib.ListN.{length, take, drop, set, get_or, length-drop, take-append-drop, drop_of_length-le}
-use lib.Seq.{drop-cons, drop-drop, length-take-le, sets-eq, take_all}
+use lib.Seq.{drop-cons, drop-drop, length-take-le, take_all}
 use Rattle.octets.specs.Laid.{laid}
-use Rattle.octets.proofs.Laid.{laid_front, laid_none, laid_laid, set_one}
+use Rattle.octets.proofs.Laid.{laid_front, laid_none, length_laid, laid_laid, set_one}
+
+-- a piece copied into the part of the memory that it fills
+copied : (xs p ys : List ℕ) (at k : ℕ) → ys ≡ p → k ≡ length p → put_mid at k xs ys ≡ laid xs at p
+unfolding laid
+copied xs p ys at k e ek =
+    ap₂ (λ (l : List ℕ) (n : ℕ). take at xs ++ (l ++ drop n (drop at xs))) e ek
+    ∙ sym (append_assoc (take at xs) p (drop (length p) (drop at xs)))
+    ∙ ap (λ (l : List ℕ). take at xs ++ p ++ l) (drop-drop (length p) at xs)
 
 -- four octets
-pub four_stored : (x0 x1 x2 x3 : ℕ) (l : List ℕ) (i : ℕ) → i + 4 ≤ length l
-    → set (set (set (set l i x0) (i + 1) x1) (i + 2) x2) (i + 3) x3 ≡ laid l i (x0 ∷ x1 ∷ x2 ∷ x3 ∷ [])
-unfolding laid
-four_stored x0 x1 x2 x3 l i h = rw (add-one, add-two, add-three) (sets-eq (x0 ∷ x1 ∷ x2 ∷ x3 ∷ []) l i h)
+pub word_copied : (xs s ys : List ℕ) (i : ℕ) → ys ≡ take (i + 4 - i) (drop i s) → i + 4 ≤ length s → put_mid i (i + 4 - i) xs ys ≡ laid xs i (take 4 (drop i s))
+word_copied xs s ys i e h =
+    let four : i + 4 - i ≡ 4 = omega arith in
+    let long : length (take 4 (drop i s)) ≡ 4 = length-take-le 4 (drop i s) (let g : 4 ≤ length (drop i s) = omega (arith, length-drop i s) in g) in
+    copied xs (take 4 (drop i s)) ys i (i + 4 - i) (e ∙ ap (λ (k : ℕ). take k (drop i s)) four) (four ∙ sym long)
 
 -- one octet
 pub one_turn : (xs src : List ℕ) (i : ℕ) → i < length src → length src ≤ length xs
@@ -36,6 +45,17 @@ part_turn xs src m i j e h room =
     ∙ ap (λ (q : List ℕ). laid xs i (take m (drop i src) ++ q)) (ap (λ (k : ℕ). drop k src) e ∙ sym (drop-drop m i src))
     ∙ ap (laid xs i) (take-append-drop m (drop i src))
 
+-- eight octets, four at once
+pub eight_turn : (xs src : List ℕ) (k : ℕ) → k < length src / 8 → length src ≤ length xs
+    → laid (laid (laid xs (k * 8) (take 4 (drop (k * 8) src))) (k * 8 + 4) (take 4 (drop (k * 8 + 4) src))) ((k + 1) * 8) (drop ((k + 1) * 8) src)
+    ≡ laid xs (k * 8) (drop (k * 8) src)
+eight_turn xs src k h room =
+    let p : List ℕ = take 4 (drop (k * 8) src) in
+    let long : length p ≡ 4 = length-take-le 4 (drop (k * 8) src) (let g : 4 ≤ length (drop (k * 8) src) = omega (arith, length-drop (k * 8) src) in g) in
+    let same : length (laid xs (k * 8) p) ≡ length xs = length_laid xs (k * 8) p (omega arith) in
+    part_turn (laid xs (k * 8) p) src 4 (k * 8 + 4) ((k + 1) * 8) (omega arith) (omega arith) (omega arith)
+    ∙ part_turn xs src 4 (k * 8) (k * 8 + 4) refl (omega arith) room
+
 -- nothing left
 pub none_left : (xs src : List ℕ) (i : ℕ) → length src ≤ i → laid xs i (drop i src) ≡ xs
 none_left xs src i h = ap (laid xs i) (drop_of_length-le src h) ∙ laid_none xs i
@@ -53,3 +73,5 @@ laid_part xs p at k e h =
     ∙ ap (λ (l : List ℕ). take at xs ++ l) (append-nil (laid (drop at xs) 0 p) ∙ laid_front (drop at xs) p)
     ∙ sym (append_assoc (take at xs) p (drop (length p) (drop at xs)))
     ∙ ap (λ (l : List ℕ). take at xs ++ p ++ l) (drop-drop (length p) at xs)
+
+pub ruleset octets_copied = (one_turn, none_left)
