@@ -1,35 +1,28 @@
 // What an octet says as a delimiter or as a fragment code, and how far it is from any delimiter (document 01, "Octets of an mFrame").
 #![tactic(auto)]
 
-ghost use Rattle.std.specs.Prelude.{◌≡◌, min};
+ghost use Rattle.std.specs.Prelude.{◌≡◌};
 ghost use Rattle.delimiters.specs.Delimiters.{distance_of, delimiter_of, fragment_of};
 
 use codes::{FragmentCount, FrameCount};
 
-fn least(a: u32, b: u32) -> u32
-    ensures { result ≡ min a b }
-{
-    if a <= b { a } else { b }
-}
+// The codes of the eleven delimiters.
+const ELEVEN: [u8; 11] = [
+    0xD5, 0xE6, 0x4C, 0x7F, 0xB3, 0x61, 0x52, 0x9E, 0x2A, 0x07, 0x19,
+];
 
 // The least number of bits by which an octet differs from any of the eleven delimiters.
 pub fn distance(octet: u8) -> u32
     ensures { result ≡ distance_of octet }
 {
-    let eleven = [
-        0xD5u8, 0xE6, 0x4C, 0x7F, 0xB3, 0x61, 0x52, 0x9E, 0x2A, 0x07, 0x19,
-    ];
     let mut best: u32 = 8;
-    // Not a usize, which has 64 bits on the board too.
-    let mut i: u32 = 0;
-    while i < 11 {
-        let bits = u8::count_ones(octet ^ eleven[i as usize]);
+    for delimiter in &ELEVEN {
+        let bits = (octet ^ *delimiter).count_ones();
         // Any two of the eleven are four bits apart, so no other is nearer.
         if bits <= 2 {
             return bits;
         }
-        best = least(best, bits);
-        i += 1;
+        best = best.min(bits);
     }
     best
 }

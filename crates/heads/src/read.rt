@@ -1,5 +1,5 @@
 // The head of any octets: the kind with its counts and where the data begin, or the refusal.
-ghost use Rattle.std.specs.Prelude.{◌≡◌, ◌≤◌};
+ghost use Rattle.std.specs.Prelude.{◌≡◌};
 ghost use Rattle.heads.specs.Head.{reading, sized_of, fragmented_of, delimited_of, head_of, is_known};
 
 use crate::Head;
@@ -15,14 +15,15 @@ const LEAST: usize = 64;
 const MOST: usize = 1522;
 
 // A kind whose header ends at a place: whether the octets behind it are as many as an mFrame has.
+#[tactic(auto, using(rules::proofs::Tests::tests))]
 fn sized(kind: Kind, place: usize, length: usize) -> Result<Head, Fault>
-    requires { place ≤ 9 }
     ensures { reading result ≡ sized_of kind place length }
 {
-    if length < place + LEAST {
+    let behind = length.saturating_sub(place);
+    if behind < LEAST {
         return Err(Fault::Short);
     }
-    if place + MOST < length {
+    if behind > MOST {
         return Err(Fault::Long);
     }
     Ok(Head { kind, place })
@@ -30,7 +31,6 @@ fn sized(kind: Kind, place: usize, length: usize) -> Result<Head, Fault>
 
 // A continuation, with its fragment code at place code.
 fn fragmented(frame: FrameCount, code: usize, mframe: &[u8]) -> Result<Head, Fault>
-    requires { code ≤ 8 }
     ensures { reading result ≡ fragmented_of frame code mframe.now }
 {
     let octet = *mframe.get(code).ok_or(Fault::Short)?;
@@ -40,7 +40,6 @@ fn fragmented(frame: FrameCount, code: usize, mframe: &[u8]) -> Result<Head, Fau
 
 // A delimiter that ends before a place.
 fn delimited(delimiter: Delimiter, place: usize, mframe: &[u8]) -> Result<Head, Fault>
-    requires { place ≤ 8 }
     ensures { reading result ≡ delimited_of delimiter place mframe.now }
 {
     match delimiter {

@@ -22,7 +22,7 @@ module _ (m : List ℕ) where
   none = record { few = omega arith; within = omega arith; counted = omega arith }
 
   -- one more
-  onward : {n : ℕ} → Front m n → n < 8 → n < length m → get_or m n 0 ≡ 0x55 → Front m (n + 1)
+  pub onward : {n : ℕ} → Front m n → n < 8 → n < length m → get_or m n 0 ≡ 0x55 → Front m (n + 1)
   onward {n} f h k e = record { few = omega arith; within = omega arith; counted = omega (arith, f.counted, one_more m n k e) }
 
   module _ (h : 6 ≤ length m) (octet : (k : ℕ) → get_or m k 0 < 256) (first : word_at m 0 ≡ four55) where

@@ -12,13 +12,11 @@ const FOUR_55: u32 = 0x55555555;
 
 // Some of the leading octets 55: six or four where there are as many, by two numbers, of places 0 to 3 and of 2 to 5, since each octet by itself
 // takes more than both.
+#[tactic(auto, using(crate::proofs::Fours::none, crate::proofs::Fours::four, crate::proofs::Fours::six))]
 fn front(mframe: &[u8]) -> u32
     ensures { Front mframe.now result }
 {
-    if mframe.len() < 6 {
-        return 0;
-    }
-    if fours::load(mframe, 0) != FOUR_55 {
+    if mframe.len() < 6 || fours::load(mframe, 0) != FOUR_55 {
         return 0;
     }
     if fours::load(mframe, 2) != FOUR_55 {
@@ -28,18 +26,14 @@ fn front(mframe: &[u8]) -> u32
 }
 
 // How many octets 55 lead; the count stops where there are too many, so that no input is gone through to its end.
+#[tactic(auto, using(crate::proofs::Fours::onward, crate::proofs::Leading::no_more, crate::proofs::Leading::at_end))]
 pub fn lead(mframe: &[u8]) -> u32
     ensures { result ≡ min 8 (leading mframe.now) }
 {
-    let mut n = front(mframe);
-    while n < TOO_MANY {
-        if mframe.len() <= n as usize {
+    for n in front(mframe)..TOO_MANY {
+        let Some(0x55) = mframe.get(n as usize) else {
             return n;
-        }
-        if mframe[n as usize] != 0x55 {
-            return n;
-        }
-        n += 1;
+        };
     }
     TOO_MANY
 }

@@ -1,5 +1,5 @@
--- `delimiters::distance` meets its contract. The invariant: the least so far and that of the codes left make the distance. What it stops at
--- early is the distance by itself.
+-- `delimiters::distance` meets its contract. The invariant: the least so far and that of the codes left make the distance; what it would stop
+-- at here is the distance by itself (`unbeaten`).
 use mathlib.Core.Path.{◌≡◌, ap}
 use mathlib.Core.List.{List, map}
 use Prim.Native.Nat.{ℕ, ◌+◌, ◌≤◌, ◌<◌, min}
@@ -21,19 +21,22 @@ at_end : (x i : ℕ) → 11 ≤ i → left x i ≡ 8
 unfolding least_of
 at_end x i h = ap (λ (ds : List ℕ). least_of (map (differing x) ds)) (drop_of_length-le eleven h)
 
-pub loop-i-init : goal.loop-i-init
+pub loop-delimiter-init : goal.loop-delimiter-init
 unfolding distance_of
-loop-i-init c = (omega arith, (omega arith, (omega (arith, least_eight (map (differing c.args.octet) eleven)), unbeaten c.args.octet 0 c.ranges.octet.fits)))
+loop-delimiter-init c = record {
+  few = omega arith;
+  least = omega (arith, least_eight (map (differing c.args.octet) eleven));
+  stop = unbeaten c.args.octet 0 c.ranges.octet.fits;
+}
 
-pub loop-i-preserved : goal.loop-i-preserved
-loop-i-preserved c =
-    let l = c.loop-i in
-    let t = turn c.args.octet l.i c.loop-i-test.true in
-    let e = c.least-best.ensures in
-    (omega arith, (omega arith, (omega arith, unbeaten c.args.octet (l.i + 1) c.ranges.octet.fits)))
+pub loop-delimiter-preserved : goal.loop-delimiter-preserved
+loop-delimiter-preserved c =
+    let l = c.loop-delimiter in
+    let t = turn c.args.octet l.delimiter-index (omega arith) in
+    record { few = omega arith; least = omega arith; stop = unbeaten c.args.octet (l.delimiter-index + 1) c.ranges.octet.fits }
 
 pub returns : goal.returns
 returns c =
-    let l = c.loop-i in
-    let e = at_end c.args.octet l.i c.loop-i-test.false in
+    let l = c.loop-delimiter in
+    let e = at_end c.args.octet l.delimiter-index (omega arith) in
     omega arith
