@@ -38,8 +38,8 @@ fn record(kept: Kept, q: Question) -> Kept {
                 fragments: q.word(28),
             },
         },
-        buffer: kept.buffer,
         went: Went::On,
+        ..kept
     }
 }
 
@@ -52,25 +52,23 @@ fn buffer(kept: Kept, q: Question, space: &mut [u8]) -> Kept {
 }
 
 fn say_answer(rt: HostRuntime, answer: Answer) {
-    say::first(rt, answer.number() as u64);
+    say::first(rt, u64::from(answer.number()));
     say::number(rt, answer.detail() as u64);
 }
 
 fn say_record(rt: HostRuntime, r: Record) {
-    let frame = r.frame;
-    let fragment = r.fragment;
     say::flag(rt, r.assembling);
-    say::small(rt, frame.0);
-    say::small(rt, fragment.0);
+    say::small(rt, r.frame.0);
+    say::small(rt, r.fragment.0);
     say::number(rt, r.kept as u64);
-    say::word(rt, r.running as u64);
+    say::word(rt, u64::from(r.running));
 }
 
 fn say_counters(rt: HostRuntime, c: Counters) {
-    say::number(rt, c.errors as u64);
-    say::number(rt, c.delimiters as u64);
-    say::number(rt, c.assembled as u64);
-    say::number(rt, c.fragments as u64);
+    say::number(rt, u64::from(c.errors));
+    say::number(rt, u64::from(c.delimiters));
+    say::number(rt, u64::from(c.assembled));
+    say::number(rt, u64::from(c.fragments));
 }
 
 fn say_check(rt: HostRuntime, octets: &[u8]) {
@@ -86,26 +84,22 @@ fn start_of_body(mframe: &[u8]) -> u32 {
 
 fn say_body(rt: HostRuntime, mframe: &[u8]) {
     let body = express_body::express_body(mframe);
-    say::number(rt, start_of_body(mframe) as u64);
+    say::number(rt, u64::from(start_of_body(mframe)));
     say::number(rt, body.len() as u64);
     say_check(rt, body);
 }
 
 fn receive_into(rt: HostRuntime, kept: Kept, mframe: &[u8], buffer: &mut [u8]) -> Kept {
-    let r = kept.record;
-    let got = receive::receive(mframe, r, buffer);
-    let answer = got.answer;
-    let record = got.after;
-    let counters = record.counters;
-    say_answer(rt, answer);
-    say_record(rt, record);
-    say_counters(rt, counters);
+    let got = receive::receive(mframe, kept.record, buffer);
+    say_answer(rt, got.answer);
+    say_record(rt, got.after);
+    say_counters(rt, got.after.counters);
     say_check(rt, buffer);
     say_body(rt, mframe);
     Kept {
-        record,
-        buffer: kept.buffer,
+        record: got.after,
         went: say::line_end(rt),
+        ..kept
     }
 }
 

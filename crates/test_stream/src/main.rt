@@ -6,7 +6,7 @@ use codes::{FragmentCount, FrameCount};
 use counters::Counters;
 use receiver_record::Record;
 use std::process::ExitCode;
-use stream::{Given, Reply, State};
+use stream::{Refusal, Reply, State};
 use test_questions::read::Question;
 use test_questions::went::Went;
 use test_questions::{read, say};
@@ -75,10 +75,6 @@ struct Tally {
     unsound: u32,
 }
 
-fn plus(n: u32, so: bool) -> u32 {
-    std::num::wrapping_add_u32(n, so as u32)
-}
-
 impl Tally {
     const NONE: Tally = Tally {
         waited: 0,
@@ -87,40 +83,42 @@ impl Tally {
     };
 
     fn with(self, reply: Reply) -> Tally {
-        let mut t = self;
         match reply {
-            Reply::Waits => t.waited = plus(self.waited, true),
-            Reply::Refused(refusal) => {
-                let number = refusal.number();
-                t.short = plus(self.short, number == 18);
-                t.unsound = plus(self.unsound, number == 19);
-            }
-            Reply::Answered(_) => {}
+            Ok(None) => Tally {
+                waited: self.waited.wrapping_add(1),
+                ..self
+            },
+            Err(Refusal::Area) => Tally {
+                short: self.short.wrapping_add(1),
+                ..self
+            },
+            Err(Refusal::State) => Tally {
+                unsound: self.unsound.wrapping_add(1),
+                ..self
+            },
+            Ok(Some(_)) => self,
         }
-        t
     }
 }
 
 fn say_state(rt: HostRuntime, s: State) {
-    say::number(rt, s.count as u64);
+    say::number(rt, u64::from(s.count));
     say::flag(rt, s.more);
 }
 
 fn say_record(rt: HostRuntime, r: Record) {
-    let frame = r.frame;
-    let fragment = r.fragment;
     say::flag(rt, r.assembling);
-    say::small(rt, frame.0);
-    say::small(rt, fragment.0);
+    say::small(rt, r.frame.0);
+    say::small(rt, r.fragment.0);
     say::number(rt, r.kept as u64);
-    say::word(rt, r.running as u64);
+    say::word(rt, u64::from(r.running));
 }
 
 fn say_counters(rt: HostRuntime, c: Counters) {
-    say::number(rt, c.errors as u64);
-    say::number(rt, c.delimiters as u64);
-    say::number(rt, c.assembled as u64);
-    say::number(rt, c.fragments as u64);
+    say::number(rt, u64::from(c.errors));
+    say::number(rt, u64::from(c.delimiters));
+    say::number(rt, u64::from(c.assembled));
+    say::number(rt, u64::from(c.fragments));
 }
 
 fn say_check(rt: HostRuntime, octets: &[u8]) {
@@ -136,53 +134,42 @@ struct Run {
 }
 
 fn give(run: Run, octet: u8, area: &mut [u8], buffer: &mut [u8]) -> Run {
-    let before = run.tally;
-    let got = stream::stream(Given::Octet(octet), run.state, area, run.record, buffer);
-    let state = got.state;
-    let record = got.after;
-    let reply = got.reply;
-    let tally = before.with(reply);
+    let got = stream::stream(Some(octet), run.state, area, run.record, buffer);
     Run {
-        state,
-        record,
-        tally,
+        state: got.state,
+        record: got.after,
+        tally: run.tally.with(got.reply),
     }
 }
 
 fn give_all(kept: Kept, octets: &[u8], area: &mut [u8], buffer: &mut [u8]) -> Run {
-    let state = kept.state;
-    let record = kept.record;
     let mut run = Run {
-        state,
-        record,
+        state: kept.state,
+        record: kept.record,
         tally: Tally::NONE,
     };
-    for octet in octets {
-        run = give(run, *octet, area, buffer);
+    for &octet in octets {
+        run = give(run, octet, area, buffer);
     }
     run
 }
 
 fn say_tally(rt: HostRuntime, t: Tally) {
-    say::number(rt, t.waited as u64);
-    say::number(rt, t.short as u64);
-    say::number(rt, t.unsound as u64);
+    say::number(rt, u64::from(t.waited));
+    say::number(rt, u64::from(t.short));
+    say::number(rt, u64::from(t.unsound));
 }
 
 fn take(rt: HostRuntime, kept: Kept, octets: &[u8], area: &mut [u8], buffer: &mut [u8]) -> Kept {
     let run = give_all(kept, octets, area, buffer);
-    let state = run.state;
-    let record = run.record;
-    let tally = run.tally;
     say::text(rt, b"octets");
-    say_tally(rt, tally);
-    say_state(rt, state);
+    say_tally(rt, run.tally);
+    say_state(rt, run.state);
     say_check(rt, area);
-    let went = say::line_end(rt);
     Kept {
-        state,
-        record,
-        went,
+        state: run.state,
+        record: run.record,
+        went: say::line_end(rt),
         ..kept
     }
 }
@@ -205,36 +192,31 @@ fn octets(rt: HostRuntime, kept: Kept, q: Question, area: &mut [u8], buffer: &mu
 fn say_reply(rt: HostRuntime, reply: Reply) {
     match reply {
         // No answer to an end.
-        Reply::Waits => say::text(rt, b" waits"),
-        Reply::Refused(refusal) => {
-            say::number(rt, refusal.number() as u64);
+        Ok(None) => say::text(rt, b" waits"),
+        Err(refusal) => {
+            say::number(rt, u64::from(refusal.number()));
             say::number(rt, 0);
         }
-        Reply::Answered(answer) => {
-            say::number(rt, answer.number() as u64);
+        Ok(Some(answer)) => {
+            say::number(rt, u64::from(answer.number()));
             say::number(rt, answer.detail() as u64);
         }
     }
 }
 
 fn end(rt: HostRuntime, kept: Kept, area: &mut [u8], buffer: &mut [u8]) -> Kept {
-    let got = stream::stream(Given::End, kept.state, area, kept.record, buffer);
-    let reply = got.reply;
-    let state = got.state;
-    let record = got.after;
-    let counters = record.counters;
+    let got = stream::stream(None, kept.state, area, kept.record, buffer);
     say::text(rt, b"end");
-    say_reply(rt, reply);
-    say_state(rt, state);
-    say_record(rt, record);
-    say_counters(rt, counters);
+    say_reply(rt, got.reply);
+    say_state(rt, got.state);
+    say_record(rt, got.after);
+    say_counters(rt, got.after.counters);
     say_check(rt, area);
     say_check(rt, buffer);
-    let went = say::line_end(rt);
     Kept {
-        state,
-        record,
-        went,
+        state: got.state,
+        record: got.after,
+        went: say::line_end(rt),
         ..kept
     }
 }
