@@ -58,16 +58,16 @@ fn ask_of(a: u32, t: u32) -> Ask {
 
 // A frame chosen for a preemptable call, where none is in progress.
 fn chosen(l: Link) -> Link {
-    let s = l.sender;
-    if s.length != 0 {
+    if l.sender.length != 0 {
         return l;
     }
     let x = chance::step(l.x);
-    let mut next = l;
-    next.x = x;
-    next.seed = x;
-    next.length = chance::length(x);
-    next
+    Link {
+        x,
+        seed: x,
+        length: chance::length(x),
+        ..l
+    }
 }
 
 fn preemptable(first: Link, out: &mut [u8; 1530]) -> Link {
@@ -90,17 +90,18 @@ fn preemptable(first: Link, out: &mut [u8; 1530]) -> Link {
 fn set(l: Link, hold: bool) -> Link {
     let x = chance::step(l.x);
     let drawn = chance::one_of(x, 4);
-    let mut sender = l.sender;
-    let mut next = l;
-    next.x = x;
-    if hold {
-        sender.hold = drawn == 0;
-        next.sender = sender;
-        return next;
-    }
-    sender.extra = (drawn % 256) as u8;
-    next.sender = sender;
-    next
+    let sender = if hold {
+        sender_record::Record {
+            hold: drawn == 0,
+            ..l.sender
+        }
+    } else {
+        sender_record::Record {
+            extra: (drawn % 256) as u8,
+            ..l.sender
+        }
+    };
+    Link { x, sender, ..l }
 }
 
 // The sender's turn.
@@ -130,89 +131,71 @@ fn say_body(rt: HostRuntime, body: &[u8]) {
 
 // An mFrame that arrives: the receiver's answer.
 fn arrive(rt: HostRuntime, l: Link, mframe: &[u8], buffer: &mut [u8; 1518]) -> Link {
-    let r = l.receiver;
-    let got = receive::receive(mframe, r, buffer);
-    let answer = got.answer;
-    let after = got.after;
-    let number = answer.number();
-    let detail = answer.detail();
-    say::first(rt, number as u64);
-    say::number(rt, detail as u64);
-    if number == 0 {
-        say_body(rt, express_body::express_body(mframe));
+    let got = receive::receive(mframe, l.receiver, buffer);
+    let number = got.answer.number();
+    say::first(rt, u64::from(number));
+    say::number(rt, got.answer.detail() as u64);
+    match got.answer {
+        receiver_answers::Answer::Express(_) => say_body(rt, express_body::express_body(mframe)),
+        receiver_answers::Answer::Delivered(n) => say_body(rt, read::front(buffer, n)),
+        _ => {}
     }
-    if number == 1 {
-        say_body(rt, read::front(buffer, detail));
+    Link {
+        receiver: got.after,
+        tally: l.tally.answered(number),
+        written: say::line_end(rt),
+        ..l
     }
-    let t = l.tally;
-    let tally = t.answered(number);
-    let mut next = l;
-    next.receiver = after;
-    next.tally = tally;
-    next.written = say::line_end(rt);
-    next
 }
 
 // Whether an mFrame is lost, from a draw. A preemptable one is not while three in a row were.
 fn is_lost(x: u32, preemptable: bool, run: u32) -> bool {
-    if preemptable && run == 3 {
-        return false;
-    }
-    chance::one_of(x, 3) == 0
+    !(preemptable && run == 3) && chance::one_of(x, 3) == 0
 }
 
 // How many octets 55 lead an mFrame, up to a number.
-fn leading(mframe: &[u8], most: u32) -> u32 {
-    for k in 0..most {
-        if mframe.len() <= k as usize {
-            return k;
-        }
-        if mframe[k as usize] != 0x55 {
-            return k;
-        }
-    }
-    most
+fn leading(mframe: &[u8], most: usize) -> usize {
+    mframe
+        .iter()
+        .take(most)
+        .take_while(|&&octet| octet == 0x55)
+        .count()
 }
 
 // An mFrame without so many of its leading octets 55, or as many as it has.
 fn shortened(mframe: &[u8], dropped: u32) -> &[u8] {
-    read::behind(mframe, leading(mframe, dropped) as usize)
+    read::behind(mframe, leading(mframe, dropped as usize))
 }
 
 // The fate of an mFrame: lost, or how many of its leading octets 55 the link drops.
 fn fate(rt: HostRuntime, l: Link, out: &[u8], buffer: &mut [u8; 1518]) -> Link {
     let x = chance::step(l.x);
-    let t = l.tally;
-    let lost = is_lost(x, l.preemptable, t.run);
-    let mut next = l;
-    next.x = x;
-    if l.preemptable {
-        let tally = t.written(l.done, lost);
-        next.tally = tally;
-    }
+    let lost = is_lost(x, l.preemptable, l.tally.run);
+    let tally = if l.preemptable {
+        l.tally.written(l.done, lost)
+    } else {
+        l.tally
+    };
     if lost {
-        return next;
+        return Link { x, tally, ..l };
     }
     let y = chance::step(x);
-    next.x = y;
     arrive(
         rt,
-        next,
+        Link { x: y, tally, ..l },
         shortened(read::front(out, l.wrote), chance::one_of(y, 9)),
         buffer,
     )
 }
 
 fn say_end(rt: HostRuntime, l: Link) -> Went {
-    let t = l.tally;
-    let r = l.receiver;
-    let c = r.counters;
+    let c = l.receiver.counters;
     say::text(rt, b"end");
-    tally::write(rt, t);
-    say::number(rt, c.errors as u64);
-    say::number(rt, c.delimiters as u64);
-    say::number(rt, c.assembled as u64);
-    say::number(rt, c.fragments as u64);
+    tally::write(rt, l.tally);
+    say::number(rt, u64::from(c.errors));
+    say::number(rt, u64::from(c.delimiters));
+    say::number(rt, u64::from(c.assembled));
+    say::number(rt, u64::from(c.fragments));
     say::line_end(rt)
 }
 

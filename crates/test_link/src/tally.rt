@@ -17,11 +17,7 @@ pub(crate) struct Tally {
 
 // One more, where that is so.
 fn plus(n: u32, so: bool) -> u32 {
-    std::num::wrapping_add_u32(n, so as u32)
-}
-
-fn greater(a: u32, b: u32) -> u32 {
-    if a < b { b } else { a }
+    n.wrapping_add(u32::from(so))
 }
 
 fn run_after(run: u32, lost: bool) -> u32 {
@@ -46,36 +42,41 @@ impl Tally {
         let run = run_after(self.run, lost);
         let pieces = plus(self.pieces, true);
         let losses = plus(self.losses, lost);
-        let mut t = self;
-        t.run = run;
-        t.longest = greater(self.longest, run);
-        t.pieces = pieces;
-        t.losses = losses;
-        t.most = greater(self.most, pieces);
-        if done {
-            t.sent = plus(self.sent, true);
-            t.whole = plus(self.whole, losses == 0);
-            t.pieces = 0;
-            t.losses = 0;
-            return t;
+        let on = Tally {
+            run,
+            longest: self.longest.max(run),
+            pieces,
+            losses,
+            most: self.most.max(pieces),
+            ..self
+        };
+        if !done {
+            return on;
         }
-        t
+        Tally {
+            sent: plus(self.sent, true),
+            whole: plus(self.whole, losses == 0),
+            pieces: 0,
+            losses: 0,
+            ..on
+        }
     }
 
     // The receiver answers.
     pub fn answered(self, number: u32) -> Tally {
-        let mut t = self;
-        t.express = plus(self.express, number == 0);
-        t.delivered = plus(self.delivered, number == 1);
-        t
+        Tally {
+            express: plus(self.express, number == 0),
+            delivered: plus(self.delivered, number == 1),
+            ..self
+        }
     }
 }
 
 pub(crate) fn write(rt: HostRuntime, t: Tally) {
-    say::number(rt, t.sent as u64);
-    say::number(rt, t.whole as u64);
-    say::number(rt, t.delivered as u64);
-    say::number(rt, t.express as u64);
-    say::number(rt, t.longest as u64);
-    say::number(rt, t.most as u64);
+    say::number(rt, u64::from(t.sent));
+    say::number(rt, u64::from(t.whole));
+    say::number(rt, u64::from(t.delivered));
+    say::number(rt, u64::from(t.express));
+    say::number(rt, u64::from(t.longest));
+    say::number(rt, u64::from(t.most));
 }
