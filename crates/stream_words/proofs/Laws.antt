@@ -9,12 +9,14 @@ use borrow.Author.Tests.{le-ltb, ltb-false}
 use lib.Dec.{eqb, ltb}
 use lib.ListN.{length}
 use Rattle.receiver_record.specs.declared.Record.{Record}
-use Rattle.std.specs.Prelude.{Some}
+use Rattle.std.specs.Prelude.{Some, Result, Ok, Err}
 use Rattle.stream.specs.declared.State.{State}
-use Rattle.stream.specs.Stream.{most, unsound, counted, Saying, waits, refuses, answers, Turn, stream_of}
+use Rattle.stream.specs.declared.Refusal.{Refusal}
+use Rattle.stream.specs.declared.Refusal.TheVariants as R
+use Rattle.stream.specs.Stream.{most, number, unsound, counted, Saying, waits, refuses, answers, Turn, stream_of}
 use Rattle.words.specs.Words.{word}
 use Rattle.words.proofs.Laws.{flag_read, flag_written}
-use Rattle.stream_words.specs.State.{state_of, state_words, refusal_of, counted_words, Keeping, octet_of}
+use Rattle.stream_words.specs.State.{state_of, state_words, told, refusal_of, counted_words, Keeping, octet_of}
 
 -- a state is read back from its words
 pub state_read : (s : State) → state_of (state_words s) ≡ s
@@ -33,6 +35,15 @@ passed w room e = go (ltb room most) (ltb 1 (word w 1)) (unsound (state_of w)) r
     go false true z p q r n = absurd (let v : ⊥ = omega arith in v)
     go false false true p q r n = absurd (let v : ⊥ = omega arith in v)
     go false false false p q r n = record { roomy = ltb-false _ _ p; sound = r }
+
+-- no refusal is numbered 0, and what is none is told as 0
+pub some : (why : Refusal) → number why ≡ 0 → ⊥
+some R.Area e = let y : ⊥ = omega arith in y
+some R.State e = let y : ⊥ = omega arith in y
+
+pub none : {T : Type 0} (x : Result T Refusal) → ((why : Refusal) → x ≡ Err why → ⊥) → told x ≡ 0
+none (Ok y) h = refl
+none (Err why) h = absurd (h why refl)
 
 -- the words of a state that is read from two words, and those after an octet, where the second is a flag
 pub state_written : (n f : ℕ) → f ≤ 1 → state_words (state_of (n ∷ f ∷ [])) ≡ n ∷ f ∷ []

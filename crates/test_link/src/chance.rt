@@ -2,15 +2,12 @@
 
 // The state after one more draw.
 pub(crate) fn step(x: u32) -> u32 {
-    ((x as u64 * 1664525 + 1013904223) % 4294967296) as u32
+    x.wrapping_mul(1664525).wrapping_add(1013904223)
 }
 
 // What a draw gives: one of k numbers from 0 on.
 pub(crate) fn one_of(x: u32, k: u32) -> u32 {
-    if k == 0 {
-        return 0;
-    }
-    x / 65536 % k
+    (x / 65536).checked_rem(k).unwrap_or(0)
 }
 
 // The length of a body.

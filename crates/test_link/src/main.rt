@@ -6,6 +6,7 @@ mod chance;
 mod tally;
 
 use crate::tally::Tally;
+use receiver_answers::Answer;
 use sender_answers::{Refusal, Written};
 use std::process::ExitCode;
 use test_questions::stop::Stop;
@@ -52,8 +53,7 @@ fn ask_of(a: u32, t: u32) -> Option<usize> {
 
 // A frame chosen for a preemptable call, where none is in progress.
 fn chosen(l: Link) -> Link {
-    let s = l.sender;
-    if s.length != 0 {
+    if l.sender.length != 0 {
         return l;
     }
     let x = chance::step(l.x);
@@ -85,17 +85,18 @@ fn preemptable(first: Link, out: &mut [u8; 1530]) -> Link {
 fn set(l: Link, hold: bool) -> Link {
     let x = chance::step(l.x);
     let drawn = chance::one_of(x, 4);
-    let mut sender = l.sender;
-    let mut next = l;
-    next.x = x;
-    if hold {
-        sender.hold = drawn == 0;
-        next.sender = sender;
-        return next;
-    }
-    sender.extra = (drawn % 256) as u8;
-    next.sender = sender;
-    next
+    let sender = if hold {
+        sender_record::Record {
+            hold: drawn == 0,
+            ..l.sender
+        }
+    } else {
+        sender_record::Record {
+            extra: (drawn % 256) as u8,
+            ..l.sender
+        }
+    };
+    Link { x, sender, ..l }
 }
 
 // The sender's turn.
@@ -131,16 +132,13 @@ fn arrive(
     buffer: &mut [u8; 1518],
 ) -> Result<Link, Stop> {
     let got = receive::receive(mframe, l.receiver, buffer);
-    let answer = got.answer;
-    let number = answer.number();
-    let detail = answer.detail();
-    say::first(rt, number as u64);
-    say::number(rt, detail as u64);
-    if number == 0 {
-        say_body(rt, express_body::express_body(mframe));
-    }
-    if number == 1 {
-        say_body(rt, read::front(buffer, detail));
+    let number = got.answer.number();
+    say::first(rt, u64::from(number));
+    say::number(rt, got.answer.detail() as u64);
+    match got.answer {
+        Answer::Express(_) => say_body(rt, express_body::express_body(mframe)),
+        Answer::Delivered(n) => say_body(rt, read::front(buffer, n)),
+        _ => {}
     }
     say::line_end(rt)?;
     Ok(Link {
@@ -152,10 +150,7 @@ fn arrive(
 
 // Whether an mFrame is lost, from a draw. A preemptable one is not while three in a row were.
 fn is_lost(x: u32, preemptable: bool, run: u32) -> bool {
-    if preemptable && run == 3 {
-        return false;
-    }
-    chance::one_of(x, 3) == 0
+    !(preemptable && run == 3) && chance::one_of(x, 3) == 0
 }
 
 // An mFrame without so many of its leading octets 55, or as many as it has.
@@ -178,37 +173,32 @@ fn fate(
     buffer: &mut [u8; 1518],
 ) -> Result<Link, Stop> {
     let x = chance::step(l.x);
-    let t = l.tally;
-    let lost = is_lost(x, l.preemptable, t.run);
-    let mut next = l;
-    next.x = x;
-    if l.preemptable {
-        let tally = t.written(l.done, lost);
-        next.tally = tally;
-    }
+    let lost = is_lost(x, l.preemptable, l.tally.run);
+    let tally = if l.preemptable {
+        l.tally.written(l.done, lost)
+    } else {
+        l.tally
+    };
     if lost {
-        return Ok(next);
+        return Ok(Link { x, tally, ..l });
     }
     let y = chance::step(x);
-    next.x = y;
     arrive(
         rt,
-        next,
+        Link { x: y, tally, ..l },
         shortened(read::front(out, l.wrote), chance::one_of(y, 9)),
         buffer,
     )
 }
 
 fn say_end(rt: HostRuntime, l: Link) -> Result<(), Stop> {
-    let t = l.tally;
-    let r = l.receiver;
-    let c = r.counters;
+    let c = l.receiver.counters;
     say::text(rt, b"end");
-    tally::write(rt, t);
-    say::number(rt, c.errors as u64);
-    say::number(rt, c.delimiters as u64);
-    say::number(rt, c.assembled as u64);
-    say::number(rt, c.fragments as u64);
+    tally::write(rt, l.tally);
+    say::number(rt, u64::from(c.errors));
+    say::number(rt, u64::from(c.delimiters));
+    say::number(rt, u64::from(c.assembled));
+    say::number(rt, u64::from(c.fragments));
     say::line_end(rt)
 }
 

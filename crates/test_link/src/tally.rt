@@ -73,10 +73,10 @@ impl Tally {
 }
 
 pub(crate) fn write(rt: HostRuntime, t: Tally) {
-    say::number(rt, t.sent as u64);
-    say::number(rt, t.whole as u64);
-    say::number(rt, t.delivered as u64);
-    say::number(rt, t.express as u64);
-    say::number(rt, t.longest as u64);
-    say::number(rt, t.most as u64);
+    say::number(rt, u64::from(t.sent));
+    say::number(rt, u64::from(t.whole));
+    say::number(rt, u64::from(t.delivered));
+    say::number(rt, u64::from(t.express));
+    say::number(rt, u64::from(t.longest));
+    say::number(rt, u64::from(t.most));
 }

@@ -19,7 +19,7 @@ struct Kept {
 }
 
 fn say_answer(rt: HostRuntime, answer: Answer) {
-    say::first(rt, answer.number() as u64);
+    say::first(rt, u64::from(answer.number()));
     say::number(rt, answer.detail() as u64);
 }
 
@@ -32,7 +32,7 @@ fn start_of_body(mframe: &[u8]) -> u32 {
 
 fn say_body(rt: HostRuntime, mframe: &[u8]) {
     let body = express_body::express_body(mframe);
-    say::number(rt, start_of_body(mframe) as u64);
+    say::number(rt, u64::from(start_of_body(mframe)));
     say::number(rt, body.len() as u64);
     say_check(rt, body);
 }

@@ -4,7 +4,7 @@
 
 use receiver_record::Record;
 use std::process::ExitCode;
-use stream::{Given, Refusal, Reply, State};
+use stream::{Refusal, Reply, State};
 use test_questions::read::Question;
 use test_questions::stop::Stop;
 use test_questions::{read, say};
@@ -67,21 +67,21 @@ impl Tally {
 
     fn count(&mut self, reply: Reply) {
         match reply {
-            Reply::Waits => self.waited = self.waited.wrapping_add(1),
-            Reply::Refused(Refusal::Area) => self.short = self.short.wrapping_add(1),
-            Reply::Refused(Refusal::State) => self.unsound = self.unsound.wrapping_add(1),
-            Reply::Answered(_) => {}
+            Ok(None) => self.waited = self.waited.wrapping_add(1),
+            Err(Refusal::Area) => self.short = self.short.wrapping_add(1),
+            Err(Refusal::State) => self.unsound = self.unsound.wrapping_add(1),
+            Ok(Some(_)) => {}
         }
     }
 }
 
 fn say_state(rt: HostRuntime, s: State) {
-    say::number(rt, s.count as u64);
+    say::number(rt, u64::from(s.count));
     say::flag(rt, s.more);
 }
 
 // An octet or the end, given to the receiver; its reply.
-fn give(kept: &mut Kept, given: Given) -> Reply {
+fn give(kept: &mut Kept, given: Option<u8>) -> Reply {
     let area = kept.area.octets();
     let buffer = kept.buffer.octets();
     let got = stream::stream(given, kept.state, area, kept.record, buffer);
@@ -91,16 +91,16 @@ fn give(kept: &mut Kept, given: Given) -> Reply {
 }
 
 fn say_tally(rt: HostRuntime, t: Tally) {
-    say::number(rt, t.waited as u64);
-    say::number(rt, t.short as u64);
-    say::number(rt, t.unsound as u64);
+    say::number(rt, u64::from(t.waited));
+    say::number(rt, u64::from(t.short));
+    say::number(rt, u64::from(t.unsound));
 }
 
 fn octets(rt: HostRuntime, kept: &mut Kept, q: Question) -> Result<(), Stop> {
     let mut space = [0u8; 2048];
     let mut tally = Tally::NONE;
     for octet in read::octets(rt, &mut space, q.short(1))? {
-        tally.count(give(kept, Given::Octet(*octet)));
+        tally.count(give(kept, Some(*octet)));
     }
     say::text(rt, b"octets");
     say_tally(rt, tally);
@@ -112,20 +112,20 @@ fn octets(rt: HostRuntime, kept: &mut Kept, q: Question) -> Result<(), Stop> {
 fn say_reply(rt: HostRuntime, reply: Reply) {
     match reply {
         // No answer to an end.
-        Reply::Waits => say::text(rt, b" waits"),
-        Reply::Refused(refusal) => {
-            say::number(rt, refusal.number() as u64);
+        Ok(None) => say::text(rt, b" waits"),
+        Err(refusal) => {
+            say::number(rt, u64::from(refusal.number()));
             say::number(rt, 0);
         }
-        Reply::Answered(answer) => {
-            say::number(rt, answer.number() as u64);
+        Ok(Some(answer)) => {
+            say::number(rt, u64::from(answer.number()));
             say::number(rt, answer.detail() as u64);
         }
     }
 }
 
 fn end(rt: HostRuntime, kept: &mut Kept) -> Result<(), Stop> {
-    let reply = give(kept, Given::End);
+    let reply = give(kept, None);
     say::text(rt, b"end");
     say_reply(rt, reply);
     say_state(rt, kept.state);

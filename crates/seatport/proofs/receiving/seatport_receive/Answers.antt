@@ -34,11 +34,11 @@ unfolding receiving_of
 returns-then-buffer-lt-BODY_MOST c =
     let unfit = sym c.receiver_fits.ensures ∙ c.if-receiver_fits.false in
     let t0 = c.if-buffer-lt-BODY_MOST.true in
-    simp (unfit, tests) (record { answer = refl; value = refl; after = refl; octets = refl })
+    simp (unfit, tests) (record { answer = c.number.ensures; value = refl; after = refl; octets = refl })
 
 pub returns : goal.returns
 unfolding receiving_of
 returns c =
     let unfit = sym c.receiver_fits.ensures ∙ c.if-receiver_fits.false in
     let t0 = c.if-buffer-lt-BODY_MOST.false in
-    simp (unfit, tests) (record { answer = refl; value = refl; after = refl; octets = refl })
+    simp (unfit, tests) (record { answer = c.number-2.ensures; value = refl; after = refl; octets = refl })
