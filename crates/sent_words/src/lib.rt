@@ -27,7 +27,7 @@ pub fn written_of(answer: Answer) -> [u32; 2]
     ensures { result ≡ written_of (said answer) }
 {
     match answer {
-        Answer::Wrote { length, done } => [length as u32, words::flag(done)],
+        Answer::Wrote { length, done } => [length as u32, u32::from(done)],
         Answer::Refused(_) => [0, 0],
     }
 }

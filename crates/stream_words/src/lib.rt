@@ -63,14 +63,15 @@ pub fn octet(stream: &mut [u32; 2], area: &mut [u8], octet: u8) -> u32
 
 // What the first receiver answers to an mFrame that runs over, by the words of its record; it changes nothing.
 // That the words are nine is told for callers, who lend them.
+#[tactic(auto, using(rules::proofs::Tests::tests), unfolding(crate::specs::State::too_long))]
 pub fn too_long(receiver: [u32; 9], room: usize) -> u32
     ensures { (result ≡ too_long receiver room) × (length receiver ≡ 9) }
 {
     if room < BODY_MOST {
         return 10;
     }
-    if receiver_words::receiver_fits(receiver) {
-        if receiver_words::receiver_of(receiver).in_range() {
+    if let Some(record) = receiver_words::receiver_in(receiver) {
+        if record.in_range() {
             return 13;
         }
     }

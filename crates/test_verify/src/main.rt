@@ -16,43 +16,19 @@ struct Kept {
     went: Went,
 }
 
-fn phase_of(x: u8) -> Phase {
-    match x {
-        0 => Phase::Off,
-        1 => Phase::Trying,
-        2 => Phase::Verified,
-        _ => Phase::Failed,
-    }
-}
-
-fn number_of(phase: Phase) -> u8 {
-    match phase {
-        Phase::Off => 0,
-        Phase::Trying => 1,
-        Phase::Verified => 2,
-        Phase::Failed => 3,
-    }
-}
-
 fn say_answer(rt: HostRuntime, answer: Answer) {
     match answer {
-        Answer::Taken(ordered) => {
-            if ordered {
-                say::text(rt, b"1");
-            } else {
-                say::text(rt, b"0");
-            }
-        }
-        Answer::Refused(why) => {
+        Ok(true) => say::text(rt, b"1"),
+        Ok(false) => say::text(rt, b"0"),
+        Err(why) => {
             say::text(rt, b"refused");
-            say::number(rt, why.number() as u64);
+            say::number(rt, u64::from(why.number()));
         }
     }
 }
 
 fn say_record(rt: HostRuntime, r: Record) {
-    let phase = r.phase;
-    say::small(rt, number_of(phase));
+    say::number(rt, u64::from(u32::from(r.phase)));
     say::small(rt, r.attempt);
     say::small(rt, r.left);
     say::flag(rt, r.owed);
@@ -64,13 +40,12 @@ fn after(kept: Kept, went: Went) -> Kept {
 }
 
 fn record(kept: Kept, q: Question) -> Kept {
-    let phase = q.octet(1);
-    if 3 < phase {
+    let Ok(phase) = Phase::try_from(u32::from(q.octet(1))) else {
         return after(kept, Went::Broken);
-    }
+    };
     Kept {
         record: Record {
-            phase: phase_of(phase),
+            phase,
             attempt: q.octet(2),
             left: q.octet(3),
             owed: q.octet(4) != 0,
@@ -81,18 +56,14 @@ fn record(kept: Kept, q: Question) -> Kept {
 }
 
 fn event(rt: HostRuntime, kept: Kept, q: Question) -> Kept {
-    let number = q.octet(1) as u32;
-    if !event_words::is_event(number) {
+    let Some(event) = event_words::event_at(u32::from(q.octet(1)), q.word(2)) else {
         return after(kept, Went::Broken);
-    }
-    let r = kept.record;
-    let stepped = verify::step(r, event_words::event_of(number, q.word(2)));
-    let answer = stepped.answer;
-    let record = stepped.after;
-    say_answer(rt, answer);
-    say_record(rt, record);
+    };
+    let stepped = verify::step(kept.record, event);
+    say_answer(rt, stepped.answer);
+    say_record(rt, stepped.after);
     Kept {
-        record,
+        record: stepped.after,
         went: say::line_end(rt),
     }
 }

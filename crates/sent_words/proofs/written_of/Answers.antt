@@ -8,4 +8,4 @@ pub overflow_cast-result : goal.overflow_cast-result
 overflow_cast-result c = record { fits = subst (λ a. Short (said a)) c.in-Wrote.is c.requires }
 
 pub returns-in-Wrote : goal.returns-in-Wrote
-returns-in-Wrote c = simp (c.in-Wrote.is, c.flag.ensures)
+returns-in-Wrote c = simp (c.in-Wrote.is, c.from.ensures)
