@@ -1,8 +1,6 @@
 -- The promise of the verification event, told in words.
 -- Assumes nothing.
-use mathlib.Core.Path.{◌≡◌, refl, sym, ap, ◌∙◌}
-use mathlib.Core.Logic.{◌⊎◌, inl, inr}
-use mathlib.Core.Bool.{Bool, true, false, ◌&&◌, false≢true}
+use mathlib.Core.Path.{◌≡◌, ap, ◌∙◌}
 use mathlib.Core.List.{List}
 use Prim.Native.Nat.{ℕ}
 use Rattle.verify_answers.specs.Answers.{Told, said, told}
@@ -20,9 +18,3 @@ taken_words s h n o a =
       value = o ∙ ap (λ (t : Told). flag t.said.ordered) h;
       after = a ∙ ap (λ (t : Told). link_words t.after) h;
     }
-
--- what is refused where the words or the event are unfit
-pub refused : (fits event : Bool) {A B : Type 0} → A ⊎ B → (A → event ≡ false) → (B → fits ≡ false) → (fits && event) ≡ false
-refused false event s f g = refl
-refused true event (inl a) f g = f a
-refused true event (inr b) f g = absurd (false≢true (sym (g b)))

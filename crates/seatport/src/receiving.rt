@@ -14,22 +14,21 @@ pub extern "C" fn seatport_receive(
 ) -> u32
     ensures { Received (receiving_of receiver.old mframe.now buffer.old) result detail.new receiver.new buffer.new }
 {
-    let words = *receiver;
-    if receiver_words::receiver_fits(words) {
-        let got = receive::receive(mframe, receiver_words::receiver_of(words), buffer);
-        let answer = got.answer;
-        let after = got.after;
-        // Before the words are written: the answer then need not outlive them, which saves instructions in every call.
-        let number = answer.number();
-        *receiver = receiver_words::receiver_words(after);
-        *detail = answer.detail() as u32;
-        return number;
-    }
-    *detail = 0;
-    if buffer.len() < BODY_MOST {
-        return Refusal::Buffer.number();
-    }
-    Refusal::Record.number()
+    let Some(record) = receiver_words::receiver_in(*receiver) else {
+        *detail = 0;
+        return if buffer.len() < BODY_MOST {
+            Refusal::Buffer.number()
+        } else {
+            Refusal::Record.number()
+        };
+    };
+    let got = receive::receive(mframe, record, buffer);
+    let answer = got.answer;
+    // Before the words are written: the answer then need not outlive them, which saves instructions in every call.
+    let number = answer.number();
+    *receiver = receiver_words::receiver_words(got.after);
+    *detail = answer.detail() as u32;
+    number
 }
 
 #[unsafe(no_mangle)]

@@ -43,23 +43,13 @@ pub extern "C" fn seatport_preemptable(
 ) -> u32
     ensures { Sent (sending_of sender.old body.now ask (length out.old)) out.old result sender.new written.new out.new }
 {
-    let words = *sender;
-    if sender_words::sender_fits(words) {
-        let sent = send::preemptable(
-            sender_words::sender_of(words),
-            body,
-            sent_words::ask_of(ask),
-            out,
-        );
-        let answer = sent.answer;
-        let after = sent.after;
-        *sender = sender_words::sender_words(after);
-        *written = sent_words::written_of(answer);
-        return sent_words::number_of(answer);
-    }
-    *written = [0, 0];
-    if out.len() < OUTPUT_LEAST {
-        return 30;
-    }
-    31
+    let Some(record) = sender_words::sender_in(*sender) else {
+        *written = [0, 0];
+        return if out.len() < OUTPUT_LEAST { 30 } else { 31 };
+    };
+    let sent = send::preemptable(record, body, sent_words::ask_of(ask), out);
+    let answer = sent.answer;
+    *sender = sender_words::sender_words(sent.after);
+    *written = sent_words::written_of(answer);
+    sent_words::number_of(answer)
 }

@@ -27,7 +27,7 @@ pub extern "C" fn seatport_end(
         return refusal.number();
     }
     *stream = [0, 0];
-    let count = words::wide(words[0]);
+    let count = words[0] as usize;
     let kept = &area[0..count];
     if stream::runs_over(words[1] == 1, kept) {
         return stream_words::too_long(*receiver, buffer.len()).number();

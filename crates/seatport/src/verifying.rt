@@ -1,6 +1,9 @@
 // The verification event, with the wait that an enable carries.
 ghost use Rattle.seatport.specs.Verifying.{verifying_of, Taken};
 
+// What words that are no record's get, and a number that is no event's.
+const UNFIT: u32 = 40;
+
 #[unsafe(no_mangle)]
 pub extern "C" fn seatport_step(
     link: &mut [u32; 5],
@@ -10,18 +13,15 @@ pub extern "C" fn seatport_step(
 ) -> u32
     ensures { Taken (verifying_of link.old event wait) result ordered.new link.new }
 {
-    let words = *link;
-    if verify_words::link_fits(words) && event_words::is_event(event) {
-        let stepped = verify::step(
-            verify_words::link_of(words),
-            event_words::event_of(event, wait),
-        );
-        let answer = stepped.answer;
-        let after = stepped.after;
-        *link = verify_words::link_words(after);
-        *ordered = event_words::ordered_of(answer);
-        return event_words::number_of(answer);
-    }
     *ordered = 0;
-    40
+    let Some(record) = verify_words::link_in(*link) else {
+        return UNFIT;
+    };
+    let Some(event) = event_words::event_at(event, wait) else {
+        return UNFIT;
+    };
+    let stepped = verify::step(record, event);
+    *link = verify_words::link_words(stepped.after);
+    *ordered = event_words::ordered_of(stepped.answer);
+    event_words::number_of(stepped.answer)
 }

@@ -14,10 +14,7 @@ const NO_ASK: usize = 0xFFFF_FFFF_FFFF_FFFF;
 pub fn number_of(answer: Result<Written, Refusal>) -> u32
     ensures { result ≡ number_of (said answer) }
 {
-    match answer {
-        Ok(_) => 0,
-        Err(why) => why.number(),
-    }
+    answer.err().map_or(0, Refusal::number)
 }
 
 // The two words of what was written.
@@ -26,7 +23,7 @@ pub fn written_of(answer: Result<Written, Refusal>) -> [u32; 2]
     ensures { result ≡ written_of (said answer) }
 {
     match answer {
-        Ok(Written { length, done }) => [length as u32, words::flag(done)],
+        Ok(Written { length, done }) => [length as u32, u32::from(done)],
         Err(_) => [0, 0],
     }
 }

@@ -82,8 +82,8 @@ pub fn too_long(receiver: [u32; 9], room: usize) -> First
     if room < BODY_MOST {
         return First::Buffer;
     }
-    if receiver_words::receiver_fits(receiver) {
-        if receiver_words::receiver_of(receiver).in_range() {
+    if let Some(record) = receiver_words::receiver_in(receiver) {
+        if record.in_range() {
             return First::Head(Fault::Long);
         }
     }

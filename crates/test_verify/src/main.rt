@@ -9,43 +9,19 @@ use test_questions::stop::Stop;
 use verify_answers::Answer;
 use verify_record::{Phase, Record};
 
-fn phase_of(x: u8) -> Phase {
-    match x {
-        0 => Phase::Off,
-        1 => Phase::Trying,
-        2 => Phase::Verified,
-        _ => Phase::Failed,
-    }
-}
-
-fn number_of(phase: Phase) -> u8 {
-    match phase {
-        Phase::Off => 0,
-        Phase::Trying => 1,
-        Phase::Verified => 2,
-        Phase::Failed => 3,
-    }
-}
-
 fn say_answer(rt: HostRuntime, answer: Answer) {
     match answer {
-        Answer::Taken(ordered) => {
-            if ordered {
-                say::text(rt, b"1");
-            } else {
-                say::text(rt, b"0");
-            }
-        }
-        Answer::Refused(why) => {
+        Ok(true) => say::text(rt, b"1"),
+        Ok(false) => say::text(rt, b"0"),
+        Err(why) => {
             say::text(rt, b"refused");
-            say::number(rt, why.number() as u64);
+            say::number(rt, u64::from(why.number()));
         }
     }
 }
 
 fn say_record(rt: HostRuntime, r: Record) {
-    let phase = r.phase;
-    say::small(rt, number_of(phase));
+    say::number(rt, u64::from(u32::from(r.phase)));
     say::small(rt, r.attempt);
     say::small(rt, r.left);
     say::flag(rt, r.owed);
@@ -53,12 +29,9 @@ fn say_record(rt: HostRuntime, r: Record) {
 }
 
 fn record(q: Question) -> Result<Record, Stop> {
-    let phase = q.octet(1);
-    if 3 < phase {
-        return Err(Stop::Broken);
-    }
+    let phase = Phase::try_from(u32::from(q.octet(1))).map_err(|_| Stop::Broken)?;
     Ok(Record {
-        phase: phase_of(phase),
+        phase,
         attempt: q.octet(2),
         left: q.octet(3),
         owed: q.octet(4) != 0,
@@ -68,10 +41,8 @@ fn record(q: Question) -> Result<Record, Stop> {
 
 fn event(rt: HostRuntime, record: &mut Record, q: Question) -> Result<(), Stop> {
     let number = u32::from(q.octet(1));
-    if !event_words::is_event(number) {
-        return Err(Stop::Broken);
-    }
-    let stepped = verify::step(*record, event_words::event_of(number, q.word(2)));
+    let event = event_words::event_at(number, q.word(2)).ok_or(Stop::Broken)?;
+    let stepped = verify::step(*record, event);
     *record = stepped.after;
     say_answer(rt, stepped.answer);
     say_record(rt, stepped.after);

@@ -9,7 +9,7 @@ use verify_answers::{Refusal, Stepped, refused, taken};
 use verify_record::{Phase, Record};
 use verify_trying::{enable, hear, tick};
 
-#[derive(Clone, Copy)]
+#[derive(Clone, Copy, PartialEq, Eq)]
 pub enum Event {
     // With the milliseconds that each attempt is to wait for an R.
     Enable(u32),
@@ -53,11 +53,13 @@ fn take(record: Record, event: Event) -> Stepped
 
 // What an event does to a record, and whether a V is ordered; a record outside its ranges, or then an enable with a wait outside its own, is
 // refused and the record handed back.
+#[tactic(auto, using(crate::proofs::Laws::step_taken, crate::proofs::Laws::step_refused))]
 pub fn step(record: Record, event: Event) -> Stepped
     ensures { told result ≡ step_of «record» event }
 {
     if record.in_range() {
-        return take(record, event);
+        take(record, event)
+    } else {
+        refused(Refusal::Record, record)
     }
-    refused(Refusal::Record, record)
 }

@@ -1,26 +1,25 @@
 -- No second answer meets a promise of this crate.
 -- Assumes nothing.
 use mathlib.Core.Path.{◌≡◌, refl, sym, ap, ◌∙◌}
-use mathlib.Core.Bool.{cond}
+use mathlib.Core.Bool.{Bool, cond}
 use Prim.Native.Nat.{ℕ}
 use lib.Dec.{eqb}
+use Rattle.std.specs.Prelude.{Result, Ok, Err}
 use Rattle.verify_answers.specs.Answers.{number, Said, said, Told, told}
-use Rattle.verify_answers.specs.declared.Answer.{Answer}
-use Rattle.verify_answers.specs.declared.Answer.TheVariants.{Taken, Refused}
 use Rattle.verify_answers.specs.declared.Refusal.{Refusal}
 use Rattle.verify_answers.specs.declared.Refusal.TheVariants as Why
 use Rattle.verify_answers.specs.declared.Stepped.{Stepped}
 
 -- no two answers are said alike: what is said gives the answer back
-abbrev unsaid : Said → Answer
-unsaid s = cond (eqb s.number 0) (Taken s.ordered) (Refused (cond (eqb s.number 40) Why.Record Why.Wait))
+abbrev unsaid : Said → Result Bool Refusal
+unsaid s = cond (eqb s.number 0) (Ok s.ordered) (Err (cond (eqb s.number 40) Why.Record Why.Wait))
 
-back : (a : Answer) → unsaid (said a) ≡ a
-back (Taken v) = refl
-back (Refused Why.Record) = refl
-back (Refused Why.Wait) = refl
+back : (a : Result Bool Refusal) → unsaid (said a) ≡ a
+back (Ok v) = refl
+back (Err Why.Record) = refl
+back (Err Why.Wait) = refl
 
-said_once : (a b : Answer) → said a ≡ said b → a ≡ b
+said_once : (a b : Result Bool Refusal) → said a ≡ said b → a ≡ b
 said_once a b e = sym (back a) ∙ ap unsaid e ∙ back b
 
 -- Refusal::number

@@ -1,9 +1,7 @@
 -- What an event of link verification is answered, in the papers' numbers, and the record after it.
 -- Assumes nothing.
-use Rattle.std.specs.Prelude.{Bool, false, ℕ}
+use Rattle.std.specs.Prelude.{Bool, false, ℕ, Result, Ok, Err}
 use Rattle.verify_record.specs.declared.Record.{Record}
-use Rattle.verify_answers.specs.declared.Answer.{Answer}
-use Rattle.verify_answers.specs.declared.Answer.TheVariants.{Taken, Refused}
 use Rattle.verify_answers.specs.declared.Refusal.{Refusal}
 use Rattle.verify_answers.specs.declared.Refusal.TheVariants as Why
 use Rattle.verify_answers.specs.declared.Stepped.{Stepped}
@@ -18,9 +16,9 @@ pub record Said : Type 0 where
   pub number : ℕ
   pub ordered : Bool
 
-abbrev pub said : Answer → Said
-said (Taken v) = record { number = 0; ordered = v }
-said (Refused why) = record { number = number why; ordered = false }
+abbrev pub said : Result Bool Refusal → Said
+said (Ok v) = record { number = 0; ordered = v }
+said (Err why) = record { number = number why; ordered = false }
 
 -- what comes of an event: the answer in the paper's terms, and the record after it
 pub record Told : Type 0 where

@@ -7,7 +7,7 @@ ghost use Rattle.verify_answers.specs.Answers.{number, takes, refuses, told};
 use verify_record::Record;
 
 // Why an event is refused: the record is outside its ranges (40), or the wait of an enable is not 1 to 128 (41).
-#[derive(Clone, Copy)]
+#[derive(Clone, Copy, PartialEq, Eq)]
 pub enum Refusal {
     Record,
     Wait,
@@ -24,12 +24,8 @@ impl Refusal {
     }
 }
 
-#[derive(Clone, Copy)]
-pub enum Answer {
-    // Done, and whether a V is ordered.
-    Taken(bool),
-    Refused(Refusal),
-}
+// Whether a V is ordered, where the event is done.
+pub type Answer = Result<bool, Refusal>;
 
 // The answer to an event, and the record after it.
 #[derive(Clone, Copy)]
@@ -43,7 +39,7 @@ pub fn taken(after: Record, ordered: bool) -> Stepped
     ensures { told result ≡ takes after ordered }
 {
     Stepped {
-        answer: Answer::Taken(ordered),
+        answer: Ok(ordered),
         after,
     }
 }
@@ -53,7 +49,7 @@ pub fn refused(why: Refusal, record: Record) -> Stepped
     ensures { told result ≡ refuses (number why) «record» }
 {
     Stepped {
-        answer: Answer::Refused(why),
+        answer: Err(why),
         after: record,
     }
 }

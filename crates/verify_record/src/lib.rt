@@ -1,7 +1,8 @@
 // What link verification keeps between events (document 01, "Verification", and document 02, (v)): the record and its ranges.
 #![tactic(auto)]
 
-ghost use Rattle.std.specs.Prelude.{◌≡◌};
+ghost use Rattle.std.specs.Prelude.{◌≡◌, ◌≤◌, OkIff};
+ghost use Rattle.verify_record.specs.Phases.{phase_number, phase_of};
 ghost use Rattle.verify_record.specs.Ranges.{is_wait, fresh, is_off, is_trying, counted, in_range};
 
 // The number of attempts; the most milliseconds that one may wait for an R, and those of a fresh record.
@@ -16,13 +17,10 @@ const USUAL: u8 = 10;
 pub fn is_wait(n: u32) -> bool
     ensures { result ≡ is_wait n }
 {
-    if n < 1 {
-        return false;
-    }
-    n <= LONGEST
+    (1..=LONGEST).contains(&n)
 }
 
-#[derive(Clone, Copy)]
+#[derive(Clone, Copy, PartialEq, Eq)]
 pub enum Phase {
     Off,
     Trying,
@@ -30,9 +28,42 @@ pub enum Phase {
     Failed,
 }
 
+impl From<Phase> for u32 {
+    ghost from_gives = { λ phase n. n ≡ phase_number phase };
+
+    fn from(phase: Phase) -> u32 {
+        match phase {
+            Phase::Off => 0,
+            Phase::Trying => 1,
+            Phase::Verified => 2,
+            Phase::Failed => 3,
+        }
+    }
+}
+
+// A number that no phase has.
+#[derive(Clone, Copy, PartialEq, Eq)]
+pub struct UnknownPhase;
+
+impl TryFrom<u32> for Phase {
+    type Error = UnknownPhase;
+
+    ghost try_from_gives = { λ n phase. OkIff phase (n ≤ 3) (phase_of n) };
+
+    fn try_from(n: u32) -> Result<Phase, UnknownPhase> {
+        match n {
+            0 => Ok(Phase::Off),
+            1 => Ok(Phase::Trying),
+            2 => Ok(Phase::Verified),
+            3 => Ok(Phase::Failed),
+            _ => Err(UnknownPhase),
+        }
+    }
+}
+
 // The phase; in trying the attempt and the milliseconds that it has left, else 0 and 0; whether a response is owed; the milliseconds that each
 // attempt waits.
-#[derive(Clone, Copy)]
+#[derive(Clone, Copy, PartialEq, Eq)]
 pub struct Record {
     pub phase: Phase,
     pub attempt: u8,
@@ -58,56 +89,32 @@ impl Record {
     pub fn is_off(self) -> bool
         ensures { result ≡ is_off self.phase }
     {
-        let phase = self.phase;
-        match phase {
-            Phase::Off => true,
-            Phase::Trying => false,
-            Phase::Verified => false,
-            Phase::Failed => false,
-        }
+        self.phase == Phase::Off
     }
 
     pub fn is_trying(self) -> bool
         ensures { result ≡ is_trying self.phase }
     {
-        let phase = self.phase;
-        match phase {
-            Phase::Off => false,
-            Phase::Trying => true,
-            Phase::Verified => false,
-            Phase::Failed => false,
-        }
+        self.phase == Phase::Trying
     }
 
     // Whether attempt and milliseconds left are at least the least and at most their most.
+    #[tactic(auto, using(rules::proofs::Tests::tests), unfolding(crate::specs::Ranges::counted))]
     fn counts(self, least: u8, attempts: u8, wait: u8) -> bool
         ensures { result ≡ counted least attempts wait self }
     {
-        let attempt = self.attempt;
-        let left = self.left;
-        if attempt < least {
-            return false;
-        }
-        if attempts < attempt {
-            return false;
-        }
-        if left < least {
-            return false;
-        }
-        left <= wait
+        (least..=attempts).contains(&self.attempt) && (least..=wait).contains(&self.left)
     }
 
     // Whether the wait is 1 to 128, and attempt and milliseconds left are those that it and the phase allow.
     pub fn in_range(self) -> bool
         ensures { result ≡ in_range self }
     {
-        let wait = self.wait;
-        if is_wait(wait as u32) {
-            if self.is_trying() {
-                return self.counts(1, ATTEMPTS, wait);
-            }
-            return self.counts(0, 0, 0);
-        }
-        false
+        let counts = if self.is_trying() {
+            self.counts(1, ATTEMPTS, self.wait)
+        } else {
+            self.counts(0, 0, 0)
+        };
+        is_wait(u32::from(self.wait)) && counts
     }
 }

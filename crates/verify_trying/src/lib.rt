@@ -10,24 +10,25 @@ use verify_answers::{Refusal, Stepped, refused, taken};
 use verify_record::{ATTEMPTS, Phase, Record};
 
 // Off becomes trying, at its first attempt; the record keeps the wait.
+#[tactic(auto, using(verify_record::proofs::Laws::wait_known))]
 pub fn enable(record: Record, wait: u32) -> Stepped
     ensures { told result ≡ enabled wait «record» }
 {
-    if verify_record::is_wait(wait) {
-        let wait = wait as u8;
-        let begun = Record {
-            phase: Phase::Trying,
-            attempt: 1,
-            left: wait,
-            wait,
-            ..record
-        };
-        if record.is_off() {
-            return taken(begun, true);
-        }
+    if !verify_record::is_wait(wait) {
+        return refused(Refusal::Wait, record);
+    }
+    let wait = wait as u8;
+    let begun = Record {
+        phase: Phase::Trying,
+        attempt: 1,
+        left: wait,
+        wait,
+        ..record
+    };
+    if !record.is_off() {
         return taken(record, false);
     }
-    refused(Refusal::Wait, record)
+    taken(begun, true)
 }
 
 // Trying becomes verified.
@@ -41,9 +42,10 @@ pub fn hear(record: Record) -> Stepped
         ..record
     };
     if record.is_trying() {
-        return taken(verified, false);
+        taken(verified, false)
+    } else {
+        taken(record, false)
     }
-    taken(record, false)
 }
 
 // One millisecond of trying: the attempt goes on, or the next one begins, or the last one has failed.
@@ -51,22 +53,19 @@ pub fn hear(record: Record) -> Stepped
 fn count_down(record: Record) -> Stepped
     ensures { told result ≡ one_less «record» }
 {
-    let attempt = record.attempt;
-    let left = record.left;
-    let wait = record.wait;
-    if 1 < left {
+    if 1 < record.left {
         let waiting = Record {
             phase: Phase::Trying,
-            left: left - 1,
+            left: record.left - 1,
             ..record
         };
         return taken(waiting, false);
     }
-    if attempt < ATTEMPTS {
+    if record.attempt < ATTEMPTS {
         let next = Record {
             phase: Phase::Trying,
-            attempt: attempt + 1,
-            left: wait,
+            attempt: record.attempt + 1,
+            left: record.wait,
             ..record
         };
         return taken(next, true);
@@ -85,7 +84,8 @@ pub fn tick(record: Record) -> Stepped
     ensures { told result ≡ ticked «record» }
 {
     if record.is_trying() {
-        return count_down(record);
+        count_down(record)
+    } else {
+        taken(record, false)
     }
-    taken(record, false)
 }

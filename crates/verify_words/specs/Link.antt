@@ -1,20 +1,9 @@
 -- The verification record, which C calls a link, as words of 32 bits.
 -- Assumes nothing.
-use Rattle.std.specs.Prelude.{Bool, cond, ◌&&◌, List, [], ◌∷◌, ℕ, eqb, leb}
-use Rattle.verify_record.specs.declared.Phase.{Phase}
-use Rattle.verify_record.specs.declared.Phase.TheVariants.{Off, Trying, Verified, Failed}
+use Rattle.std.specs.Prelude.{Bool, ◌&&◌, List, [], ◌∷◌, ℕ, leb}
+use Rattle.verify_record.specs.Phases.{phase_number, phase_of}
 use Rattle.verify_record.specs.declared.Record.{Record}
 use Rattle.words.specs.Words.{flag, word, is_flag, flag_at, is_count}
-
--- the phases by number
-abbrev pub phase_number : Phase → ℕ
-phase_number Off = 0
-phase_number Trying = 1
-phase_number Verified = 2
-phase_number Failed = 3
-
-abbrev pub phase_of : ℕ → Phase
-phase_of n = cond (eqb n 0) Off (cond (eqb n 1) Trying (cond (eqb n 2) Verified Failed))
 
 -- the verification record in five words
 abbrev pub link_words : Record → List ℕ

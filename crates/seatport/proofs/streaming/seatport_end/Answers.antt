@@ -1,5 +1,5 @@
 -- `seatport::streaming::seatport_end` meets its contract.
-use mathlib.Core.Path.{sym, ap, ◌∙◌}
+use mathlib.Core.Path.{refl, sym, ap, ◌∙◌}
 use native.Mathlib.Omega.{arith}
 use lib.ListN.{length}
 use Rattle.receiver_answers.specs.Answers.{Said}
@@ -20,18 +20,17 @@ slice_bounds-kept-end c =
     let a = c.args in
     let p = passed a.stream.now (length a.area.now) (sym c.refusal.ensures ∙ none c.refusal.result c.in_default.not-Err) in
     let w = at_most (state_of a.stream.now) p.sound in
-    let k = c.wide-count.ensures.0 in
-    omega (arith, p.roomy, k, w)
+    omega (arith, p.roomy, w)
 
 pub returns-then-runs_over : goal.returns-then-runs_over
 returns-then-runs_over c =
     let a = c.args in
     ended-long a.stream.now a.area.now a.receiver.now a.buffer.now (sym c.refusal.ensures ∙ none c.refusal.result c.in_default.not-Err)
-    (sym c.runs_over.ensures ∙ c.if-runs_over.true) c.wide-count.ensures.0 c.too_long.ensures.1
+    (sym c.runs_over.ensures ∙ c.if-runs_over.true) refl c.too_long.ensures.1
     (c.number-then-runs_over.ensures ∙ ap (λ (s : Said). s.number) c.too_long.ensures.0)
 
 pub returns : goal.returns
 returns c =
     let a = c.args in
     ended a.stream.now a.area.now a.receiver.now a.buffer.now (sym c.refusal.ensures ∙ none c.refusal.result c.in_default.not-Err)
-    (sym c.runs_over.ensures ∙ c.if-runs_over.false) c.wide-count.ensures.0 c.seatport_receive.ensures
+    (sym c.runs_over.ensures ∙ c.if-runs_over.false) refl c.seatport_receive.ensures
