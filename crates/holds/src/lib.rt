@@ -9,7 +9,7 @@ ghost use Rattle.std.specs.Prelude.{◌≤◌, length};
 
 use crate::reading::ENOUGH;
 use crate::sentences::{refused, say};
-use gate_lists::Answer;
+use gate_lists::Error;
 use std::env::{Env, FillError};
 use std::io::{ErrorKind, IsTerminal, Print, Read};
 use std::process::ExitCode;
@@ -26,16 +26,6 @@ const MOST: usize = 256;
 
 // The room for all lines: one of 29 octets at most for each event, and the last one, of 27 at most.
 const ROOM: usize = MOST * 29 + 27;
-
-// The first n events, or all where there are fewer.
-fn first(events: &[[u64; 2]], n: usize) -> &[[u64; 2]]
-    ensures { length result.now ≤ length events.now }
-{
-    if n < events.len() {
-        return &events[0..n];
-    }
-    events
-}
 
 // All lines, in one piece, and the program's status. That nobody reads any more is no failure.
 fn write(rt: HostRuntime, events: &[[u64; 2]], cycle: u64) -> ExitCode
@@ -60,15 +50,17 @@ fn failed(rt: HostRuntime, sentence: &[u8]) -> ExitCode {
 // answer does not come.
 fn list(rt: HostRuntime, octets: &[u8]) -> ExitCode {
     let mut events = [[0u64; 2]; MOST];
-    let listed = gates::list_events(octets, &mut events);
-    let answer = listed.answer;
-    match answer {
-        Answer::Good(n) => write(rt, first(&events, n as usize), listed.cycle),
-        Answer::Refused { why, entry } => {
+    match gates::list_events(octets, &mut events) {
+        Ok(total) => write(
+            rt,
+            windows::front(&events, total.events as usize),
+            total.cycle,
+        ),
+        Err(Error::Refused { why, entry }) => {
             refused(rt, why, entry);
             ExitCode::SUCCESS
         }
-        Answer::Short(_) => ExitCode::SUCCESS,
+        Err(Error::Short(_)) => ExitCode::SUCCESS,
     }
 }
 
@@ -81,12 +73,10 @@ fn list_file<R: Read + IsTerminal>(rt: HostRuntime, file: &mut R) -> ExitCode {
         );
     }
     let mut octets = [0u8; ENOUGH];
-    let taken = reading::take(file, &mut octets);
-    if taken.failed {
+    let Ok(count) = reading::take(file, &mut octets) else {
         return failed(rt, b"mmholds: the list could not be read.\n");
-    }
-    let count = taken.count;
-    list(rt, &octets[0..count])
+    };
+    list(rt, &octets[..count])
 }
 
 // The list in the file of a name, or on standard input.

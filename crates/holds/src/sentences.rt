@@ -32,7 +32,7 @@ fn tell(rt: HostRuntime, entry: u32, why: &[u8])
 {
     let mut sentence = [0u8; 128];
     let second = text::words(b"mmholds: entry ", &mut sentence, 0);
-    let third = text::number(entry as u64, &mut sentence, second);
+    let third = text::number(u64::from(entry), &mut sentence, second);
     let end = text::words(why, &mut sentence, third);
     say(rt, &sentence[0..end]);
 }

@@ -27,7 +27,7 @@ fn entry_at(octets: &[u8], at: usize) -> [u32; 3]
 fn long_at(octets: &[u8], at: usize) -> u64
     requires { at + 8 ≤ length octets.now }
 {
-    fours::load(octets, at) as u64 + fours::load(octets, at + 4) as u64 * 4294967296
+    u64::from(fours::load(octets, at)) + u64::from(fours::load(octets, at + 4)) * 4294967296
 }
 
 fn event_at(octets: &[u8], at: usize) -> [u64; 2]
@@ -110,8 +110,8 @@ fn say_octets(rt: HostRuntime, list: &[u8]) {
 }
 
 fn say_answer(rt: HostRuntime, answer: Answer) {
-    say::number(rt, answer.number() as u64);
-    say::number(rt, answer.value() as u64);
+    say::number(rt, u64::from(gate_lists::number(answer)));
+    say::number(rt, u64::from(gate_lists::value(answer)));
 }
 
 fn read_list(rt: HostRuntime, q: Question) -> Result<(), Stop> {
@@ -150,10 +150,9 @@ fn list_events(rt: HostRuntime, q: Question) -> Result<(), Stop> {
     let list = read::octets(rt, &mut list, q.short(1))?;
     let out = lent_events(&mut space, q.short(3), q.octet(5))?;
     let listed = gates::list_events(list, out);
-    let answer = listed.answer;
     say::text(rt, b"events");
-    say_answer(rt, answer);
-    say::number(rt, listed.cycle);
+    say_answer(rt, listed.map(|total| total.events));
+    say::number(rt, listed.map_or(0, |total| total.cycle));
     say_events(rt, out);
     say::line_end(rt)
 }
