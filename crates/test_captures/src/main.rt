@@ -43,5 +43,5 @@ fn question(rt: HostRuntime, q: Question) -> Result<(), Stop> {
 const SIZES: [usize; 3] = [0, 6, 6];
 
 fn main(rt: HostRuntime) -> ExitCode {
-    test_questions::run(rt, b"test_captures", &SIZES, |q| question(rt, q))
+    test_questions::run(rt, "test_captures", &SIZES, |q| question(rt, q))
 }

@@ -50,5 +50,5 @@ fn question(rt: HostRuntime, q: Question) -> Result<(), Stop> {
 const SIZES: [usize; 4] = [0, 6, 6, 6];
 
 fn main(rt: HostRuntime) -> ExitCode {
-    test_questions::run(rt, b"test_eyes", &SIZES, |q| question(rt, q))
+    test_questions::run(rt, "test_eyes", &SIZES, |q| question(rt, q))
 }

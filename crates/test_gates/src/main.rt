@@ -169,5 +169,5 @@ fn question(rt: HostRuntime, q: Question) -> Result<(), Stop> {
 }
 
 fn main(rt: HostRuntime) -> ExitCode {
-    test_questions::run(rt, b"test_gates", &SIZES, |q| question(rt, q))
+    test_questions::run(rt, "test_gates", &SIZES, |q| question(rt, q))
 }

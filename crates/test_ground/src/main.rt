@@ -159,5 +159,5 @@ fn question(rt: HostRuntime, q: Question) -> Result<(), Stop> {
 }
 
 fn main(rt: HostRuntime) -> ExitCode {
-    test_questions::run(rt, b"test_ground", &SIZES, |q| question(rt, q))
+    test_questions::run(rt, "test_ground", &SIZES, |q| question(rt, q))
 }

@@ -237,5 +237,5 @@ fn play(rt: HostRuntime, seed: u32, turns: u32) -> Result<(), Stop> {
 }
 
 fn main(rt: HostRuntime) -> ExitCode {
-    test_questions::run(rt, b"test_link", &[8], |q| play(rt, q.word(0), q.word(4)))
+    test_questions::run(rt, "test_link", &[8], |q| play(rt, q.word(0), q.word(4)))
 }

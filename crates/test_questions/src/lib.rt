@@ -35,7 +35,7 @@ fn ask_each<F: FnMut(Question) -> Result<(), Stop>>(
 // The program of this name, whose questions take these sizes, by their kinds: its status.
 pub fn run<F: FnMut(Question) -> Result<(), Stop>>(
     rt: HostRuntime,
-    name: &[u8],
+    name: &str,
     sizes: &[usize],
     answer: F,
 ) -> ExitCode

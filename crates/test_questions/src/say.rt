@@ -7,7 +7,8 @@ pub fn text(rt: HostRuntime, words: &[u8]) {
 
 // Whether the line could be ended. An output that took no word does not take a line's end either, so that nobody else has to ask.
 pub fn line_end(rt: HostRuntime) -> Result<(), Stop> {
-    Ok(rt.write_all(b"\n")?)
+    rt.write_all(b"\n")
+        .map_err(|error| Stop::Unwritten(error.into()))
 }
 
 pub fn number(rt: HostRuntime, n: u64) {

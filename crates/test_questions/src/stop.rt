@@ -1,5 +1,7 @@
 // Why a program of questions ends before its input does, which it says, once: but where nobody reads on, a program's status is 0.
-use std::io::{Error, ErrorKind, Print};
+use programs::{SIGPIPE, Unwritten};
+use std::fmt;
+use std::io::Print;
 use std::process::ExitCode;
 
 #[derive(Clone, Copy)]
@@ -10,70 +12,43 @@ pub enum Stop {
     Unread,
     // The question is cut off, or none of those described.
     Broken,
-    // The answer could not be written.
-    Unwritten,
-    // Nobody reads the answers any more, which is no failure.
-    Gone,
+    // An answer could not be written.
+    Unwritten(Unwritten),
 }
 
-// The status of a program that the system ends for writing what nobody reads (SIGPIPE).
-const SIGPIPE: u8 = 128 + 13;
-
-// Of an answer that could not be written.
-impl From<Error> for Stop {
-    fn from(error: Error) -> Stop {
-        if error.kind() == ErrorKind::BrokenPipe {
-            return Stop::Gone;
-        }
-        Stop::Unwritten
-    }
+// What is said of the program of this name.
+#[derive(Clone, Copy)]
+struct Ending<'a> {
+    name: &'a str,
+    stop: Stop,
 }
 
-impl Stop {
-    // Says, of the program of this name, why it ends.
-    fn say(self, rt: HostRuntime, name: &[u8]) {
-        match self {
-            Stop::Terminal => example(rt, name),
-            Stop::Unread => tell(rt, name, b": the questions could not be read.\n"),
-            Stop::Broken => tell(
-                rt,
-                name,
-                b": a question is cut off, or is none that tests/reference/README.md describes.\n",
+impl fmt::Display for Ending<'_> {
+    fn fmt<W: fmt::Write>(&self, f: &mut fmt::Formatter<W>) -> fmt::Result {
+        let name = self.name;
+        match self.stop {
+            Stop::Terminal => write!(
+                f,
+                "{name}: the stored questions are read on standard input, as in: scripts/run-program {name} <crates/{name}/stdin"
             ),
-            Stop::Unwritten => tell(rt, name, b": the output could not be written.\n"),
-            Stop::Gone => {}
+            Stop::Unread => write!(f, "{name}: the questions could not be read."),
+            Stop::Broken => write!(
+                f,
+                "{name}: a question is cut off, or is none that tests/reference/README.md describes."
+            ),
+            Stop::Unwritten(_) => write!(f, "{name}: the output could not be written."),
         }
     }
 }
 
 // The end of the program of this name: what is to be said, and its status, which is 0 but where nobody reads on.
-pub fn end(rt: HostRuntime, name: &[u8], went: Result<(), Stop>) -> ExitCode {
-    let Err(stop) = went else {
-        return ExitCode::SUCCESS;
-    };
-    stop.say(rt, name);
-    match stop {
-        Stop::Gone => ExitCode::from(SIGPIPE),
-        _ => ExitCode::SUCCESS,
+pub fn end(rt: HostRuntime, name: &str, went: Result<(), Stop>) -> ExitCode {
+    match went {
+        Ok(()) => ExitCode::SUCCESS,
+        Err(Stop::Unwritten(Unwritten::Gone)) => ExitCode::from(SIGPIPE),
+        Err(stop) => {
+            let _ = eprintln!(rt; "{}", Ending { name, stop });
+            ExitCode::SUCCESS
+        }
     }
-}
-
-fn say(rt: HostRuntime, words: &[u8]) {
-    let _ = rt.stderr().write_all(words);
-}
-
-fn tell(rt: HostRuntime, name: &[u8], why: &[u8]) {
-    say(rt, name);
-    say(rt, why);
-}
-
-// How the program is run, from the top of the repository.
-fn example(rt: HostRuntime, name: &[u8]) {
-    tell(
-        rt,
-        name,
-        b": the stored questions are read on standard input, as in: scripts/run-program ",
-    );
-    tell(rt, name, b" <crates/");
-    tell(rt, name, b"/stdin\n");
 }

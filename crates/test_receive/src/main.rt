@@ -69,5 +69,5 @@ fn main(rt: HostRuntime) -> ExitCode {
         space: [0; 2048],
         room: 0,
     };
-    test_questions::run(rt, b"test_receive", &SIZES, |q| question(rt, &mut kept, q))
+    test_questions::run(rt, "test_receive", &SIZES, |q| question(rt, &mut kept, q))
 }

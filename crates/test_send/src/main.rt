@@ -129,5 +129,5 @@ fn main(rt: HostRuntime) -> ExitCode {
         space: [0; 2048],
         given: 0,
     };
-    test_questions::run(rt, b"test_send", &SIZES, |q| question(rt, &mut kept, q))
+    test_questions::run(rt, "test_send", &SIZES, |q| question(rt, &mut kept, q))
 }

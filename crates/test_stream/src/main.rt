@@ -157,5 +157,5 @@ fn main(rt: HostRuntime) -> ExitCode {
         area: Lent::NONE,
         buffer: Lent::NONE,
     };
-    test_questions::run(rt, b"test_stream", &SIZES, |q| question(rt, &mut kept, q))
+    test_questions::run(rt, "test_stream", &SIZES, |q| question(rt, &mut kept, q))
 }

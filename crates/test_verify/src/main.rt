@@ -65,5 +65,5 @@ fn question(rt: HostRuntime, kept: &mut Record, q: Question) -> Result<(), Stop>
 
 fn main(rt: HostRuntime) -> ExitCode {
     let mut kept = Record::fresh();
-    test_questions::run(rt, b"test_verify", &SIZES, |q| question(rt, &mut kept, q))
+    test_questions::run(rt, "test_verify", &SIZES, |q| question(rt, &mut kept, q))
 }

@@ -69,5 +69,5 @@ fn main(rt: HostRuntime) -> ExitCode {
     photograph(rt, b"photograph rest", cut, None);
     say::text(rt, b"longest wait cut");
     say::number(rt, most(1522) as u64);
-    stop::end(rt, b"test_waits", say::line_end(rt))
+    stop::end(rt, "test_waits", say::line_end(rt))
 }
