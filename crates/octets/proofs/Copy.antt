@@ -8,6 +8,8 @@ use native.Mathlib.Omega.{arith}
 use native.Mathlib.Numerals.{add-one}
 use lib.ListN.{length, take, drop, set, get_or, length-drop, take-append-drop, drop_of_length-le}
 use lib.Seq.{drop-cons, drop-drop, length-take-le, take_all}
+use Rattle.fours.specs.Word.{word_at, octets_of}
+use Rattle.fours.proofs.Words.{octets_of_word}
 use Rattle.octets.specs.Laid.{laid}
 use Rattle.octets.proofs.Laid.{laid_front, laid_none, length_laid, laid_laid, set_one}
 
@@ -20,11 +22,11 @@ copied xs p ys at k e ek =
     ∙ ap (λ (l : List ℕ). take at xs ++ p ++ l) (drop-drop (length p) at xs)
 
 -- four octets
-pub word_copied : (xs s ys : List ℕ) (i : ℕ) → ys ≡ take (i + 4 - i) (drop i s) → i + 4 ≤ length s → put_mid i (i + 4 - i) xs ys ≡ laid xs i (take 4 (drop i s))
-word_copied xs s ys i e h =
-    let four : i + 4 - i ≡ 4 = omega arith in
+pub word_copied : (xs s ys : List ℕ) (i w : ℕ) → ys ≡ octets_of w → w ≡ word_at s i → ((k : ℕ) → get_or s k 0 < 256) → i + 4 ≤ length s
+    → put_mid i (i + 4 - i) xs ys ≡ laid xs i (take 4 (drop i s))
+word_copied xs s ys i w e ew known h =
     let long : length (take 4 (drop i s)) ≡ 4 = length-take-le 4 (drop i s) (let g : 4 ≤ length (drop i s) = omega (arith, length-drop i s) in g) in
-    copied xs (take 4 (drop i s)) ys i (i + 4 - i) (e ∙ ap (λ (k : ℕ). take k (drop i s)) four) (four ∙ sym long)
+    copied xs (take 4 (drop i s)) ys i (i + 4 - i) (e ∙ ap octets_of ew ∙ octets_of_word s known i h) (omega arith)
 
 -- one octet
 pub one_turn : (xs src : List ℕ) (i : ℕ) → i < length src → length src ≤ length xs

@@ -4,13 +4,13 @@
 ghost use Rattle.std.specs.Prelude.{◌≡◌, ◌+◌, ◌≤◌, length, take, drop};
 ghost use Rattle.octets.specs.Laid.{laid};
 
-// Four octets, at one place of both.
+// Four octets, at one place of both. They are read as one number before the first is written, which the board does by one load and one store.
 #[tactic(auto, using(crate::proofs::Copy::word_copied))]
 fn word(src: &[u8], out: &mut [u8], i: usize)
     requires { (i + 4 ≤ length src.now) × (i + 4 ≤ length out.old) }
     ensures { out.new ≡ laid out.old i (take 4 (drop i src.now)) }
 {
-    out[i..i + 4].copy_from_slice(&src[i..i + 4])
+    out[i..i + 4].copy_from_slice(&fours::split(fours::load(src, i)))
 }
 
 // The octets from a place on, one by one.
