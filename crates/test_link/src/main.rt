@@ -124,11 +124,6 @@ fn send_one(before: Link, out: &mut [u8; 1530]) -> Link {
     }
 }
 
-// The body of a delivered frame: its FCS.
-fn say_body(rt: HostRuntime, body: &[u8]) {
-    say::octets(rt, crc::fcs(crc::over(crc::ALL_ONES, body)));
-}
-
 // An mFrame that arrives: the receiver's answer.
 fn arrive(rt: HostRuntime, l: Link, mframe: &[u8], buffer: &mut [u8; 1518]) -> Link {
     let got = receive::receive(mframe, l.receiver, buffer);
@@ -136,8 +131,14 @@ fn arrive(rt: HostRuntime, l: Link, mframe: &[u8], buffer: &mut [u8; 1518]) -> L
     say::first(rt, u64::from(number));
     say::number(rt, got.answer.detail() as u64);
     match got.answer {
-        receiver_answers::Answer::Express(_) => say_body(rt, express_body::express_body(mframe)),
-        receiver_answers::Answer::Delivered(n) => say_body(rt, read::front(buffer, n)),
+        receiver_answers::Answer::Express(_) => test_receiver::say_check(
+            rt,
+            express_body::express_body(mframe),
+        ),
+        receiver_answers::Answer::Delivered(n) => test_receiver::say_check(
+            rt,
+            read::front(buffer, n),
+        ),
         _ => {}
     }
     Link {
@@ -189,13 +190,9 @@ fn fate(rt: HostRuntime, l: Link, out: &[u8], buffer: &mut [u8; 1518]) -> Link {
 }
 
 fn say_end(rt: HostRuntime, l: Link) -> Went {
-    let c = l.receiver.counters;
     say::text(rt, b"end");
     tally::write(rt, l.tally);
-    say::number(rt, u64::from(c.errors));
-    say::number(rt, u64::from(c.delimiters));
-    say::number(rt, u64::from(c.assembled));
-    say::number(rt, u64::from(c.fragments));
+    test_receiver::say_counters(rt, l.receiver.counters);
     say::line_end(rt)
 }
 

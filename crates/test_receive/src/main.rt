@@ -2,14 +2,13 @@
 // the reference alone.
 #![tactic(auto)]
 
-use codes::{FragmentCount, FrameCount};
-use counters::Counters;
 use receiver_answers::Answer;
 use receiver_record::Record;
 use std::process::ExitCode;
 use test_questions::read::Question;
 use test_questions::went::Went;
 use test_questions::{read, say};
+use test_receiver::{say_check, say_record};
 
 // What is kept from question to question: the record, how many octets of the lent space are the buffer, and how the last one went.
 #[derive(Clone, Copy)]
@@ -25,54 +24,22 @@ fn after(kept: Kept, went: Went) -> Kept {
 
 fn record(kept: Kept, q: Question) -> Kept {
     Kept {
-        record: Record {
-            assembling: q.octet(1) != 0,
-            frame: FrameCount(q.octet(2)),
-            fragment: FragmentCount(q.octet(3)),
-            kept: q.long(4),
-            running: q.word(12),
-            counters: Counters {
-                errors: q.word(16),
-                delimiters: q.word(20),
-                assembled: q.word(24),
-                fragments: q.word(28),
-            },
-        },
+        record: test_receiver::record(q),
         went: Went::On,
         ..kept
     }
 }
 
 fn buffer(kept: Kept, q: Question, space: &mut [u8]) -> Kept {
-    let n = q.short(1);
-    if read::lent(space, n, q.octet(3)).len() < n {
-        return after(kept, Went::Broken);
+    match test_receiver::lent(q, space) {
+        Some(buffer) => Kept { buffer, ..kept },
+        None => after(kept, Went::Broken),
     }
-    Kept { buffer: n, ..kept }
 }
 
 fn say_answer(rt: HostRuntime, answer: Answer) {
     say::first(rt, u64::from(answer.number()));
     say::number(rt, answer.detail() as u64);
-}
-
-fn say_record(rt: HostRuntime, r: Record) {
-    say::flag(rt, r.assembling);
-    say::small(rt, r.frame.0);
-    say::small(rt, r.fragment.0);
-    say::number(rt, r.kept as u64);
-    say::word(rt, u64::from(r.running));
-}
-
-fn say_counters(rt: HostRuntime, c: Counters) {
-    say::number(rt, u64::from(c.errors));
-    say::number(rt, u64::from(c.delimiters));
-    say::number(rt, u64::from(c.assembled));
-    say::number(rt, u64::from(c.fragments));
-}
-
-fn say_check(rt: HostRuntime, octets: &[u8]) {
-    say::octets(rt, crc::fcs(crc::over(crc::ALL_ONES, octets)));
 }
 
 // Where the express body begins, as the call for C tells it: a program cannot see where a slice lies.
@@ -93,7 +60,6 @@ fn receive_into(rt: HostRuntime, kept: Kept, mframe: &[u8], buffer: &mut [u8]) -
     let got = receive::receive(mframe, kept.record, buffer);
     say_answer(rt, got.answer);
     say_record(rt, got.after);
-    say_counters(rt, got.after.counters);
     say_check(rt, buffer);
     say_body(rt, mframe);
     Kept {

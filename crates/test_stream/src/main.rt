@@ -2,14 +2,13 @@
 // the answers expected come from the reference alone.
 #![tactic(auto)]
 
-use codes::{FragmentCount, FrameCount};
-use counters::Counters;
 use receiver_record::Record;
 use std::process::ExitCode;
 use stream::{Refusal, Reply, State};
 use test_questions::read::Question;
 use test_questions::went::Went;
 use test_questions::{read, say};
+use test_receiver::{say_check, say_record};
 
 // What is kept from question to question: the state, the record, how many octets of the lent spaces are the area and the buffer, and how the last
 // one went.
@@ -27,36 +26,24 @@ fn after(kept: Kept, went: Went) -> Kept {
 }
 
 fn record(kept: Kept, q: Question) -> Kept {
-    let record = Record {
-        assembling: q.octet(1) != 0,
-        frame: FrameCount(q.octet(2)),
-        fragment: FragmentCount(q.octet(3)),
-        kept: q.long(4),
-        running: q.word(12),
-        counters: Counters {
-            errors: q.word(16),
-            delimiters: q.word(20),
-            assembled: q.word(24),
-            fragments: q.word(28),
-        },
-    };
-    Kept { record, ..kept }
+    Kept {
+        record: test_receiver::record(q),
+        ..kept
+    }
 }
 
 fn buffer(kept: Kept, q: Question, space: &mut [u8]) -> Kept {
-    let n = q.short(1);
-    if read::lent(space, n, q.octet(3)).len() < n {
-        return after(kept, Went::Broken);
+    match test_receiver::lent(q, space) {
+        Some(buffer) => Kept { buffer, ..kept },
+        None => after(kept, Went::Broken),
     }
-    Kept { buffer: n, ..kept }
 }
 
 fn area(kept: Kept, q: Question, space: &mut [u8]) -> Kept {
-    let n = q.short(1);
-    if read::lent(space, n, q.octet(3)).len() < n {
-        return after(kept, Went::Broken);
+    match test_receiver::lent(q, space) {
+        Some(area) => Kept { area, ..kept },
+        None => after(kept, Went::Broken),
     }
-    Kept { area: n, ..kept }
 }
 
 fn state(kept: Kept, q: Question) -> Kept {
@@ -104,25 +91,6 @@ impl Tally {
 fn say_state(rt: HostRuntime, s: State) {
     say::number(rt, u64::from(s.count));
     say::flag(rt, s.more);
-}
-
-fn say_record(rt: HostRuntime, r: Record) {
-    say::flag(rt, r.assembling);
-    say::small(rt, r.frame.0);
-    say::small(rt, r.fragment.0);
-    say::number(rt, r.kept as u64);
-    say::word(rt, u64::from(r.running));
-}
-
-fn say_counters(rt: HostRuntime, c: Counters) {
-    say::number(rt, u64::from(c.errors));
-    say::number(rt, u64::from(c.delimiters));
-    say::number(rt, u64::from(c.assembled));
-    say::number(rt, u64::from(c.fragments));
-}
-
-fn say_check(rt: HostRuntime, octets: &[u8]) {
-    say::octets(rt, crc::fcs(crc::over(crc::ALL_ONES, octets)));
 }
 
 // How far the octets of a question came, a call for each.
@@ -210,7 +178,6 @@ fn end(rt: HostRuntime, kept: Kept, area: &mut [u8], buffer: &mut [u8]) -> Kept 
     say_reply(rt, got.reply);
     say_state(rt, got.state);
     say_record(rt, got.after);
-    say_counters(rt, got.after.counters);
     say_check(rt, area);
     say_check(rt, buffer);
     Kept {
