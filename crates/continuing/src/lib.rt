@@ -35,7 +35,7 @@ fn assembly_of(record: Record) -> Option<Assembly>
     record.assembling.then_some(assembly)
 }
 
-// Test 23: each count against its like.
+// Test 23: each count against its like. An enum of its own and no bool, as document 01 has each test's answer taken by a let .. else.
 #[derive(Clone, Copy)]
 enum Counts {
     Expected,

@@ -9,6 +9,7 @@ use counters::Counters;
 use mframe::{BODY_LEAST, BODY_MOST};
 
 // What the caller keeps between calls. The running CRC is the register before the complement.
+// A flag with the four values beside it, and no Option of them: test 11 (`in_range`) refuses records that are not assembling and have one.
 #[derive(Clone, Copy)]
 pub struct Record {
     pub assembling: bool,

@@ -16,6 +16,7 @@ pub const MOST: u32 = 1531;
 
 // What the caller keeps between calls, beside the area: how many octets at its front came since the last end, and whether there were more. The
 // count is a u32, since a machine of 32 bits has it in one register.
+// The count stands beside both values of the flag, and test 19 (`is_unsound`) refuses some such pairs, so this is no Option.
 #[derive(Clone, Copy)]
 pub struct State {
     pub count: u32,

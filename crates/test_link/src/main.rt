@@ -11,6 +11,7 @@ use sender_answers::{Refusal, Written};
 use std::process::ExitCode;
 use test_questions::stop::Stop;
 use test_questions::{read, say};
+use test_receivers::{say_check, say_counters};
 
 // The state of an entry: the number drawn last, both ends, the body of the frame chosen last, what is counted, the mFrame that the turn wrote
 // (none: no octets).
@@ -119,11 +120,6 @@ fn send_one(before: Link, out: &mut [u8; 1530]) -> Link {
     }
 }
 
-// The body of a delivered frame: its FCS.
-fn say_body(rt: HostRuntime, body: &[u8]) {
-    say::octets(rt, crc::fcs(crc::over(crc::ALL_ONES, body)));
-}
-
 // An mFrame that arrives: the receiver's answer.
 fn arrive(
     rt: HostRuntime,
@@ -136,8 +132,8 @@ fn arrive(
     say::first(rt, u64::from(number));
     say::number(rt, got.answer.detail() as u64);
     match got.answer {
-        Answer::Express(_) => say_body(rt, express_body::express_body(mframe)),
-        Answer::Delivered(n) => say_body(rt, read::front(buffer, n)),
+        Answer::Express(_) => say_check(rt, express_body::express_body(mframe)),
+        Answer::Delivered(n) => say_check(rt, read::front(buffer, n)),
         _ => {}
     }
     say::line_end(rt)?;
@@ -192,13 +188,9 @@ fn fate(
 }
 
 fn say_end(rt: HostRuntime, l: Link) -> Result<(), Stop> {
-    let c = l.receiver.counters;
     say::text(rt, b"end");
     tally::write(rt, l.tally);
-    say::number(rt, u64::from(c.errors));
-    say::number(rt, u64::from(c.delimiters));
-    say::number(rt, u64::from(c.assembled));
-    say::number(rt, u64::from(c.fragments));
+    say_counters(rt, l.receiver.counters);
     say::line_end(rt)
 }
 

@@ -28,12 +28,16 @@ pub fn record(q: Question) -> Record {
 pub fn say_record(rt: HostRuntime, r: Record) {
     let frame = r.frame;
     let fragment = r.fragment;
-    let c = r.counters;
     say::flag(rt, r.assembling);
     say::small(rt, frame.0);
     say::small(rt, fragment.0);
     say::number(rt, r.kept as u64);
     say::word(rt, u64::from(r.running));
+    say_counters(rt, r.counters);
+}
+
+// The counters, in document 01's order.
+pub fn say_counters(rt: HostRuntime, c: Counters) {
     for count in [c.errors, c.delimiters, c.assembled, c.fragments] {
         say::number(rt, u64::from(count));
     }
