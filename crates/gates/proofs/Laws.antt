@@ -9,10 +9,10 @@ use lib.Dec.{ltb}
 use lib.ListN.{length}
 use Rattle.rules.proofs.Tests.{tests}
 use Rattle.octets.specs.Laid.{over}
-use Rattle.gate_lists.specs.Lists.{Said, good, refused, short, said, number_of, value_of, of_octets, entries_from}
+use Rattle.gate_lists.specs.Lists.{Said, good, refused, short, number_of, value_of, of_octets, entries_from}
 use Rattle.gate_lists.proofs.Contents.{length_from}
 use Rattle.gate_lists.proofs.Good.{not_good}
-use Rattle.gates.specs.Gates.{Outcome, outcome, Met, entries_in, entries_of, cycle_of}
+use Rattle.gates.specs.Gates.{Outcome, outcome, Met, entries_in, entries_of}
 
 short_not_good : (k n : ℕ) → short k ≡ good n → ⊥
 short_not_good k n e = let z : ◌≡◌ {A = ℕ} 64 0 = ap number_of e in absurd (let y : ⊥ = omega arith in y)

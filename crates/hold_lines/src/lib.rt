@@ -33,12 +33,9 @@ fn event_lines(events: &[[u64; 2]], out: &mut [u8]) -> usize
     requires { length events.now * 29 ≤ length out.old }
     ensures { Put (event_lines events.now) 0 out.old result out.new }
 {
-    let mut i = 0;
     let mut at = 0;
-    while i < events.len() {
-        let event = events[i];
+    for event in events {
         at = event_line(event[0], event[1], out, at);
-        i += 1;
     }
     at
 }

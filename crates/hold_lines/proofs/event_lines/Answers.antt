@@ -1,6 +1,6 @@
 -- `hold_lines::event_lines` meets its contract: in each turn the lines of the events so far stand at the front.
 use mathlib.Core.Path.{◌≡◌, refl, sym}
-use Prim.Native.Nat.{◌<◌}
+use Prim.Native.Nat.{◌≤◌, ◌<◌}
 use native.Mathlib.Omega.{arith}
 use borrow.Author.Rules.{rules}
 use native.Mathlib.Numerals.{add-one}
@@ -12,30 +12,29 @@ use Rattle.hold_lines.specs.HoldLines.{event_lines}
 use Rattle.hold_lines.proofs.Laws.{event_end, so_far_end, events_next}
 use Rattle.hold_lines.proofs.event_lines.Goals as goal
 
-pub loop-i-init : goal.loop-i-init
+pub loop-event-init : goal.loop-event-init
 unfolding event_lines
-loop-i-init c = (omega arith, refl, record { place = refl; octets = sym (laid_none _ 0) })
+loop-event-init c = (refl, record { place = refl; octets = sym (laid_none _ 0) })
 
 pub event_line-at-requires : goal.event_line-at-requires
 event_line-at-requires c =
-    let l = c.loop-i in
-    omega (arith, so_far_end l.i _ l.invariant.0 l.invariant.2)
+    let l = c.loop-event in
+    let i : l.event-index ≤ length c.args.events.now = omega arith in
+    omega (arith, so_far_end l.event-index _ i l.invariant.1)
 
-pub loop-i-preserved : goal.loop-i-preserved
-loop-i-preserved c =
-    let l = c.loop-i in
+pub loop-event-preserved : goal.loop-event-preserved
+loop-event-preserved c =
+    let l = c.loop-event in
     let es = c.args.events.now in
     let line = c.event_line-at.ensures in
-    let less : l.i < length es = c.loop-i-test.true in
-    let both = put_put l.invariant.2 line (omega (arith, so_far_end l.i es l.invariant.0 l.invariant.2, event_end _ _ line)) in
-    (omega arith, search rules, rw (add-one l.i) (rw (events_next l.i es less) both))
-
-pub shape_of-out : goal.shape_of-out
-shape_of-out c = c.loop-i.invariant.1
+    let less : l.event-index < length es = omega arith in
+    let i : l.event-index ≤ length es = omega arith in
+    let both = put_put l.invariant.1 line (omega (arith, so_far_end l.event-index es i l.invariant.1, event_end _ _ line)) in
+    (search rules, rw (add-one l.event-index) (rw (events_next l.event-index es less) both))
 
 pub returns : goal.returns
 returns c =
-    let l = c.loop-i in
+    let l = c.loop-event in
     let es = c.args.events.now in
-    let all : take l.i es ≡ es = take_all l.i es (omega arith) in
-    rw all at l.invariant.2
+    let all : take l.event-index es ≡ es = take_all l.event-index es (omega arith) in
+    rw all at l.invariant.1
