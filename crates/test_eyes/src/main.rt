@@ -2,16 +2,16 @@
 // alone.
 #![tactic(auto)]
 
-use pcap_lists::Answer;
+use pcap_lists::Error;
 use std::process::ExitCode;
 use test_questions::read::Question;
 use test_questions::went::Went;
 use test_questions::{read, say};
 
 // An answer, and the FCS of all of the lent memory.
-fn say_answer(rt: HostRuntime, answer: Answer, lent: &[u8]) -> Went {
-    say::number(rt, answer.number() as u64);
-    say::number(rt, answer.value() as u64);
+fn say_answer(rt: HostRuntime, answer: Result<usize, Error>, lent: &[u8]) -> Went {
+    say::number(rt, pcap_lists::number(answer) as u64);
+    say::number(rt, pcap_lists::value(answer) as u64);
     say::octets(rt, crc::fcs(crc::over(crc::ALL_ONES, lent)));
     say::line_end(rt)
 }
