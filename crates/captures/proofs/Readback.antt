@@ -10,7 +10,7 @@ use Rattle.rules.proofs.Tests.{tests}
 use Rattle.fours.specs.Word.{octets_of, word_of}
 use Rattle.fours.proofs.Words.{word_back}
 use Rattle.trace.specs.Trace.{limit, found, ended}
-use Rattle.trace_layout.proofs.Laid.{Standing, laid_read}
+use Rattle.trace_layout.proofs.Laid.{Layout, Standing, laid_read}
 use Rattle.pcap_fields.specs.Fields.{word_in}
 use Rattle.pcap_fields.specs.declared.Order.TheVariants.{Little}
 use Rattle.pcap_records.specs.Records.{file_header, header, opens, open_of, stored_at, original_at, record_at}
@@ -20,7 +20,6 @@ use Rattle.pcap_headers.specs.Headers.{capture_record, capture_records, capture_
 use Rattle.pcap_headers.proofs.Lengths.{length_file_header, length_record}
 use Rattle.pcap_lists.specs.Lists.{records_in}
 use Rattle.pcap_records.proofs.Inside.{capture_reading}
-use Rattle.pcap_contents.proofs.Turns.{capture_layout}
 
 -- a record behind any octets and before any others
 module _ (before c behind : List ℕ) (h : length c ≤ limit) where
@@ -64,6 +63,10 @@ module _ (before c behind : List ℕ) (h : length c ≤ limit) where
   content_read : take (length c) (drop (length before + header) around) ≡ c
   unfolding octets_of
   content_read = ap (λ (x : List ℕ). take (length c) x) (drop-append-add before laid_out header) ∙ take-append_seam c behind
+
+capture_layout : Layout capture_record capture_records
+unfolding capture_records
+capture_layout = record { none = refl; more = λ c cs. refl }
 
 stands : Standing (record_at Little) (capture_reading Little) capture_record capture_records capture_layout
 stands before c behind h = record { place = length before + header; found-there = record_read before c behind h; content = content_read before c behind h }

@@ -5,12 +5,14 @@ use mathlib.Core.List.{List, [], ◌∷◌}
 use Prim.Native.Nat.{ℕ, ◌+◌}
 use native.Mathlib.Omega.{arith}
 use lib.ListN.{length, length-append}
+use Rattle.std.specs.Prelude.{Err}
 use Rattle.trace_layout.specs.Layout.{read_all}
 use Rattle.pcap_headers.specs.Headers.{file_header, capture_record, capture_records, capture_of}
 use Rattle.pcap_headers.proofs.Lengths.{length_record}
-use Rattle.pcap_lists.specs.Lists.{judged}
-use Rattle.pcap.specs.Captures.{write_of}
-use Rattle.pcap.proofs.Laws.{by_length}
+use Rattle.pcap_lists.specs.Lists.{said, judged}
+use Rattle.pcap_lists.specs.declared.Error.{Error}
+use Rattle.pcap.specs.Captures.{Met, write_of}
+use Rattle.pcap.proofs.Laws.{met_unwritten, by_length}
 use Rattle.receiver_record.specs.declared.Record.{Record}
 use Rattle.receiver_record.specs.Records.{fresh}
 use Rattle.receive.specs.Receive.{received_of}
@@ -35,3 +37,7 @@ same_length s =
 -- "refusals as for writing a capture", and the same number of octets written
 pub same_answer : (s : List ℕ) (room : ℕ) → (write_of s room).answer ≡ (eyes_of s room).answer
 same_answer s room = by_length (judged (read_all s)) (capture_of (read_all s).contents) (capture_of (shown_in s)) room (let e = same_length s in omega arith)
+
+-- so where the plain one is refused, nothing is written
+pub unwritten : (x : Error) (s out : List ℕ) → said (Err x) ≡ (write_of s (length out)).answer → Met (eyes_of s (length out)) out (said (Err x)) out
+unwritten x s out e = met_unwritten (capture_of (shown_in s)) out (length out) x (judged (read_all s)) (e ∙ same_answer s (length out))

@@ -7,12 +7,11 @@ use native.Mathlib.Omega.{arith}
 use lib.ListN.{length, take, drop, length-append, length-drop}
 use lib.Seq.{length-take-le}
 use Rattle.octets.specs.Laid.{laid}
-use Rattle.octets.proofs.Laid.{laid_laid}
-use Rattle.trace.specs.Trace.{found, read_at}
-use Rattle.trace_layout.specs.Layout.{Listing}
-use Rattle.trace_layout.proofs.Rest.{rest_found}
+use Rattle.octets.proofs.Laid.{laid_laid, laid_none}
+use Rattle.trace.specs.Trace.{found, ended, refused, read_at}
+use Rattle.trace_layout.specs.Layout.{Listing, rest_from}
+use Rattle.trace_layout.proofs.Rest.{rest_found, rest_ended, rest_refused}
 use Rattle.trace_layout.proofs.Inside.{Inside, found_inside, trace_reading}
-use Rattle.pcap_contents.proofs.Turns.{left_of}
 use Rattle.pcap_headers.specs.Headers.{capture_record, capture_records}
 use Rattle.pcap_headers.proofs.Lengths.{length_record}
 use Rattle.receiver_record.specs.declared.Record.{Record}
@@ -25,14 +24,23 @@ use Rattle.eyes.specs.Eyes.{buffer_length, shown_from}
 abbrev pub shown_by : Record → List (List ℕ) → List ℕ
 shown_by r cs = capture_records (shown_from r cs)
 
-pub none_shown : (r : Record) → shown_by r [] ≡ []
+none_shown : (r : Record) → shown_by r [] ≡ []
 unfolding capture_records shown_from
 none_shown r = refl
 
 module _ (s : List ℕ) where
   -- what is to be written of those from a place on
   abbrev pub remaining : Record → ℕ → List ℕ
-  remaining r from = left_of (read_at s) s (shown_by r) from
+  remaining r from = shown_by r (rest_from (read_at s) s from).contents
+
+  -- where no record is found, nothing is left
+  pub ends : (r : Record) (xs : List ℕ) (from at : ℕ) → read_at s from ≡ ended → laid xs at (remaining r from) ≡ xs
+  ends r xs from at e =
+      ap (λ (l : Listing). laid xs at (shown_by r l.contents)) (rest_ended (read_at s) s (trace_reading s) from e) ∙ ap (laid xs at) (none_shown r) ∙ laid_none xs at
+
+  pub stops : (r : Record) (xs : List ℕ) (from at q : ℕ) → read_at s from ≡ refused q → laid xs at (remaining r from) ≡ xs
+  stops r xs from at q e =
+      ap (λ (l : Listing). laid xs at (shown_by r l.contents)) (rest_refused (read_at s) s (trace_reading s) from q e) ∙ ap (laid xs at) (none_shown r) ∙ laid_none xs at
 
   module _ (from place n next : ℕ) (e : read_at s from ≡ found place n next) where
     -- the record that is found: its content, and where it lies

@@ -9,7 +9,7 @@ ghost use Rattle.pcap.specs.Captures.{Met};
 ghost use Rattle.eyes.specs.Eyes.{shown_in, eyes_of};
 
 use mframe::BODY_MOST;
-use pcap_lists::Answer;
+use pcap_lists::Error;
 use pcap_records::FILE_HEADER;
 use receiver_record::Record;
 use trace::Cursor;
@@ -24,32 +24,26 @@ fn put_shown(trace: &[u8], out: &mut [u8])
     pcap_headers::put_file_header(out);
     let mut from = 0;
     let mut at = FILE_HEADER;
-    while from < trace.len() {
-        let cursor = Cursor { at: from };
-        let read = cursor.read(trace);
-        let trace::Read::Record {
-            start,
-            length,
-            next,
-        } = read
-        else {
-            return;
-        };
-        let end = next.at;
-        record = eyes_records::put_shown_record(&trace[start..end], record, &mut buffer, out, at);
-        from = end;
-        at += pcap_records::HEADER + length;
+    loop {
+        match (Cursor { at: from }).read(trace) {
+            Ok(Some(span)) => {
+                let content = &trace[span.start..span.next];
+                record = eyes_records::put_shown_record(content, record, &mut buffer, out, at);
+                at += pcap_records::HEADER + span.length;
+                from = span.next;
+            }
+            Ok(None) => return,
+            Err(_) => return,
+        }
     }
 }
 
 // The capture for eyes of a trace, at the front of the memory lent. It is as long as the plain one.
-pub fn write(trace: &[u8], capture: &mut [u8]) -> Answer
+#[tactic(auto, using(crate::proofs::Lengths::unwritten))]
+pub fn write(trace: &[u8], capture: &mut [u8]) -> Result<usize, Error>
     ensures { Met (eyes_of trace.now (length capture.old)) capture.old (said result) capture.new }
 {
-    let answer = pcap::answer_for(trace, capture.len());
-    let Answer::Good(_) = answer else {
-        return answer;
-    };
+    let octets = pcap::answer_for(trace, capture.len())?;
     put_shown(trace, capture);
-    answer
+    Ok(octets)
 }

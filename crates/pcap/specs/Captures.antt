@@ -1,13 +1,11 @@
 -- The two calls on captures (document 02, (vii)): a capture from a trace, and back. Each judges all that it is given first, then its lent
 -- output: "A refusal writes nothing". Assumes nothing.
-use Rattle.std.specs.Prelude.{◌≡◌, cond, List, [], ℕ, ◌-◌, ◌^◌, ◌≤◌, ltb, length}
+use Rattle.std.specs.Prelude.{◌≡◌, cond, List, [], ℕ, ◌-◌, ◌^◌, ◌≤◌, ltb, length, Option, Some, None}
 use Rattle.octets.specs.Laid.{over}
 use Rattle.trace_layout.specs.Layout.{trace_of, read_all}
 use Rattle.pcap_headers.specs.Headers.{capture_of}
 use Rattle.pcap_lists.specs.Lists.{Said, good, refused, short, judged, records_in}
 use Rattle.pcap_records.specs.Records.{Opening, opens, shut, open_of}
-use Rattle.pcap.specs.declared.Needed.{Needed}
-use Rattle.pcap.specs.declared.Needed.TheVariants.{Octets, Beyond}
 
 -- the numbers that there are: 64 bits
 abbrev pub numbers : ℕ
@@ -47,6 +45,6 @@ pub record Met (p : Outcome) (out : List ℕ) (a : Said) (out' : List ℕ) : Typ
   pub output : out' ≡ over p.output out
 
 -- how many octets a capture has, as far as a number can tell it
-abbrev pub Tells : Needed → ℕ → Type 0
-Tells (Octets n) m = n ≡ m
-Tells Beyond m = numbers ≤ m
+abbrev pub Tells : Option ℕ → ℕ → Type 0
+Tells (Some n) m = n ≡ m
+Tells None m = numbers ≤ m

@@ -1,105 +1,73 @@
 // Captures for the usual viewer: a pcap file from a trace, and back.
 #![tactic(auto)]
 
-ghost use Rattle.std.specs.Prelude.{◌≡◌, ◌+◌, ◌*◌, ◌≤◌, length};
+ghost use Rattle.std.specs.Prelude.{◌≡◌, ◌+◌, ◌*◌, length};
 ghost use Rattle.pcap_lists.specs.Lists.{said};
-ghost use Rattle.pcap_records.specs.Records.{opens};
-ghost use Rattle.pcap.specs.Captures.{Tells, Met, write_of, read_in, read_of};
+ghost use Rattle.pcap.specs.Captures.{Tells, Met, write_of, read_of};
 
-use pcap_fields::Order;
-use pcap_lists::Answer;
-use pcap_records::{FILE_HEADER, Opened};
+use pcap_lists::{Capture, Error, Trace, Why};
+use pcap_records::FILE_HEADER;
 
 // How many octets more a record has in a capture than in a trace.
 const MORE: usize = pcap_records::HEADER - trace::HEADER;
 
-// So many records, which have four octets each in a trace at least, make a capture of more octets than a number has room for.
-const TOO_MANY: usize = 1152921504606846976;
-
-// How many octets a capture has.
-#[derive(Clone, Copy)]
-enum Needed {
-    Octets(usize),
-    // More than a number has room for.
-    Beyond,
-}
-
-fn capture_length(length: usize, records: usize) -> Needed
-    requires { records * 4 ≤ length }
+// How many octets a capture has, where a number has room for that.
+fn capture_length(length: usize, records: usize) -> Option<usize>
     ensures { Tells result (24 + length + 12 * records) }
 {
-    if TOO_MANY <= records {
-        return Needed::Beyond;
-    }
-    let headers = FILE_HEADER + MORE * records;
-    if usize::MAX - headers < length {
-        return Needed::Beyond;
-    }
-    Needed::Octets(headers + length)
-}
-
-// The capture of a trace, at the front of the memory lent.
-pub fn write(trace: &[u8], capture: &mut [u8]) -> Answer
-    ensures { Met (write_of trace.now (length capture.old)) capture.old (said result) capture.new }
-{
-    let judged = pcap_lists::of_trace(trace);
-    let Answer::Good(records) = judged else {
-        return judged;
-    };
-    let size = capture_length(trace.len(), records);
-    let Needed::Octets(octets) = size else {
-        return Answer::Short(usize::MAX);
-    };
-    if capture.len() < octets {
-        return Answer::Short(octets);
-    }
-    pcap_contents::put_capture(trace, capture);
-    Answer::Good(octets)
+    MORE.checked_mul(records)?
+        .checked_add(FILE_HEADER)?
+        .checked_add(length)
 }
 
 // What a call that writes the capture of a trace into so much room answers: of `write` what it answers, and it writes nothing.
-pub fn answer_for(trace: &[u8], room: usize) -> Answer
+pub fn answer_for(trace: &[u8], room: usize) -> Result<usize, Error>
     ensures { said result ≡ (write_of trace.now room).answer }
 {
-    let judged = pcap_lists::of_trace(trace);
-    let Answer::Good(records) = judged else {
-        return judged;
-    };
+    let records = pcap_lists::count(&Trace { octets: trace })?;
     match capture_length(trace.len(), records) {
-        Needed::Beyond => Answer::Short(usize::MAX),
-        Needed::Octets(octets) => {
+        None => Err(Error::Short(usize::MAX)),
+        Some(octets) => {
             if room < octets {
-                return Answer::Short(octets);
+                return Err(Error::Short(octets));
             }
-            Answer::Good(octets)
+            Ok(octets)
         }
     }
 }
 
-// The trace of a capture whose fields are in this order.
-fn read_in(order: Order, capture: &[u8], trace: &mut [u8]) -> Answer
-    requires { 24 ≤ length capture.now }
-    ensures { Met (read_in (opens order) capture.now (length trace.old)) trace.old (said result) trace.new }
+// The capture of a trace, at the front of the memory lent.
+#[tactic(auto, using(crate::proofs::Laws::met_unwritten))]
+pub fn write(trace: &[u8], capture: &mut [u8]) -> Result<usize, Error>
+    ensures { Met (write_of trace.now (length capture.old)) capture.old (said result) capture.new }
 {
-    let judged = pcap_lists::of_capture(order, capture);
-    let Answer::Good(records) = judged else {
-        return judged;
-    };
-    let octets = capture.len() - FILE_HEADER - MORE * records;
-    if trace.len() < octets {
-        return Answer::Short(octets);
-    }
-    pcap_contents::put_trace(order, capture, trace);
-    Answer::Good(octets)
+    let octets = answer_for(trace, capture.len())?;
+    pcap_contents::put_capture(trace, capture);
+    Ok(octets)
 }
 
 // The trace of a capture, at the front of the memory lent.
-pub fn read(capture: &[u8], trace: &mut [u8]) -> Answer
+pub fn read(capture: &[u8], trace: &mut [u8]) -> Result<usize, Error>
     ensures { Met (read_of capture.now (length trace.old)) trace.old (said result) trace.new }
 {
-    let opened = pcap_records::open(capture);
-    match opened {
-        Opened::Good(order) => read_in(order, capture, trace),
-        Opened::Refused(why) => Answer::Capture { why, record: 0 },
+    let order = match pcap_records::open(capture) {
+        Ok(order) => order,
+        Err(why) => {
+            return Err(Error::Refused {
+                why: Why::Capture(why),
+                record: 0,
+            });
+        }
+    };
+    let file = Capture {
+        order,
+        octets: capture,
+    };
+    let records = pcap_lists::count(&file)?;
+    let octets = capture.len() - FILE_HEADER - MORE * records;
+    if trace.len() < octets {
+        return Err(Error::Short(octets));
     }
+    pcap_contents::put_trace(order, capture, trace);
+    Ok(octets)
 }

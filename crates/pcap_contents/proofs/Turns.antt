@@ -1,86 +1,83 @@
 -- Contents written one by one: what is left, laid over the memory as it is now, makes the memory asked for.
 -- Assumes nothing.
-use mathlib.Core.Path.{◌≡◌, refl, sym, ap, ◌∙◌}
+use mathlib.Core.Path.{◌≡◌, refl, sym, ap, ap₂, ◌∙◌}
 use mathlib.Core.List.{List, [], ◌∷◌, ◌++◌}
 use Prim.Native.Nat.{ℕ, ◌+◌, ◌-◌, ◌≤◌}
-use denote.Enum.Declared.{tag_of}
-use lib.ListN.{length, take, drop, length-append}
-use types.Run.{OneOf, miss}
+use native.Mathlib.Omega.{arith}
+use lib.ListN.{length, take, drop, length-append, length-drop}
+use lib.Seq.{length-take-le}
 use Rattle.octets.specs.Laid.{laid}
 use Rattle.octets.proofs.Laid.{laid_laid, laid_none}
-use Rattle.trace.specs.Trace.{Said, found, ended, refused}
-use Rattle.trace_layout.specs.Layout.{Reading, Listing, rest_from}
-use Rattle.trace_layout.proofs.Laid.{Layout}
+use Rattle.trace.specs.Trace.{Said, limit, found, ended, refused}
+use Rattle.trace_layout.specs.Layout.{Reading, Listing, record_of, trace_of, rest_from}
 use Rattle.trace_layout.proofs.Rest.{rest_found, rest_ended, rest_refused}
-use Rattle.trace.specs.declared.Read.TheVariants as T
-use Rattle.trace.specs.declared.Read as trace
-use Rattle.trace.specs.Trace as trace-specs
-use Rattle.trace.specs.contracts.Read as trace-read
 use Rattle.pcap_headers.specs.Headers.{capture_record, capture_records}
-use Rattle.pcap_records.specs.declared.Read.TheVariants as C
-use Rattle.pcap_records.specs.declared.Read as capture
-use Rattle.pcap_records.specs.Records as capture-specs
-use Rattle.pcap_records.specs.contracts.Read as capture-read
+use Rattle.pcap_contents.specs.Written.{written_of}
 
--- where no record is found, nothing is left, however each content is laid out
-abbrev pub left_of : (read : ℕ → Said) (s : List ℕ) (all : List (List ℕ) → List ℕ) → ℕ → List ℕ
-left_of read s all from = all (rest_from read s from).contents
+-- what a writer that stays the same lays out
+module _ {W : Type 0} (w : W) where
+  pub captured_records : (cs : List (List ℕ)) → written_of (λ _. capture_record) (λ v _. v) w cs ≡ capture_records cs
+  unfolding written_of capture_records
+  captured_records [] = refl
+  captured_records (c ∷ cs) = ap (λ (l : List ℕ). capture_record c ++ l) (captured_records cs)
 
-module _ (read : ℕ → Said) (s : List ℕ) (w : Reading read s) (all : List (List ℕ) → List ℕ) (none : all [] ≡ []) where
-  pub ends_of : (xs : List ℕ) (from at : ℕ) → read from ≡ ended → laid xs at (left_of read s all from) ≡ xs
-  ends_of xs from at e = ap (λ (l : Listing). laid xs at (all l.contents)) (rest_ended read s w from e) ∙ ap (laid xs at) none ∙ laid_none xs at
+  pub traced_records : (cs : List (List ℕ)) → written_of (λ _. record_of) (λ v _. v) w cs ≡ trace_of cs
+  unfolding written_of trace_of
+  traced_records [] = refl
+  traced_records (c ∷ cs) = ap (λ (l : List ℕ). record_of c ++ l) (traced_records cs)
 
-  pub stops_of : (xs : List ℕ) (from at q : ℕ) → read from ≡ refused q → laid xs at (left_of read s all from) ≡ xs
-  stops_of xs from at q e = ap (λ (l : Listing). laid xs at (all l.contents)) (rest_refused read s w from q e) ∙ ap (laid xs at) none ∙ laid_none xs at
+  pub captured_room : (cs : List (List ℕ)) (n : ℕ) → 24 + length (capture_records cs) ≤ n
+      → 24 + length (written_of (λ _. capture_record) (λ v _. v) w cs) ≤ n
+  captured_room cs n h = let e = ap length (captured_records cs) in omega arith
 
-  pub no_trace_record_of : (xs : List ℕ) (from at : ℕ) (r : trace.Read) → trace-specs.said r ≡ read from → OneOf (1 ∷ 2 ∷ []) (tag_of trace-read.the_type r)
-      → laid xs at (left_of read s all from) ≡ xs
-  no_trace_record_of xs from at (T.Record place n next) e o = absurd (miss (1 ∷ 2 ∷ []) 0 tt o)
-  no_trace_record_of xs from at T.End e o = ends_of xs from at (sym e)
-  no_trace_record_of xs from at (T.Refused q) e o = stops_of xs from at _ (sym e)
+  pub traced_room : (cs : List (List ℕ)) (n : ℕ) → length (trace_of cs) ≤ n → 0 + length (written_of (λ _. record_of) (λ v _. v) w cs) ≤ n
+  traced_room cs n h = let e = ap length (traced_records cs) in omega arith
 
-  pub no_capture_record_of : (xs : List ℕ) (from at : ℕ) (r : capture.Read) → capture-specs.said r ≡ read from → OneOf (1 ∷ 2 ∷ []) (tag_of capture-read.the_type r)
-      → laid xs at (left_of read s all from) ≡ xs
-  no_capture_record_of xs from at (C.Record place n next) e o = absurd (miss (1 ∷ 2 ∷ []) 0 tt o)
-  no_capture_record_of xs from at C.End e o = ends_of xs from at (sym e)
-  no_capture_record_of xs from at (C.Refused q) e o = stops_of xs from at _ (sym e)
-
-module _ (read : ℕ → Said) (s : List ℕ) (w : Reading read s) (one : List ℕ → List ℕ) (all : List (List ℕ) → List ℕ) (y : Layout one all) where
+module _ (read : ℕ → Said) (s : List ℕ) (y : Reading read s) {W : Type 0} (one : W → List ℕ → List ℕ) (onward : W → List ℕ → W) where
   -- what is to be written of the contents from a place on
-  abbrev pub left_from : ℕ → List ℕ
-  left_from from = all (rest_from read s from).contents
-
-  -- a record that is found stands first
-  pub first : (from place n next : ℕ) → read from ≡ found place n next → left_from from ≡ one (take n (drop place s)) ++ left_from next
-  first from place n next e = ap (λ (l : Listing). all l.contents) (rest_found read s w from place n next e) ∙ y.more _ _
-
-  pub first_length : (from place n next : ℕ) → read from ≡ found place n next
-      → length (left_from from) ≡ length (one (take n (drop place s))) + length (left_from next)
-  first_length from place n next e = ap length (first from place n next e) ∙ length-append (one (take n (drop place s))) (left_from next)
-
-  -- a turn: the part of s from the content to the next record is laid out
-  pub turn : (xs xs' : List ℕ) (from place n next at k : ℕ) → read from ≡ found place n next → next - place ≡ n
-      → xs' ≡ laid xs at (one (take (next - place) (drop place s))) → k ≡ at + length (one (take n (drop place s))) → k + length (left_from next) ≤ length xs
-      → laid xs' k (left_from next) ≡ laid xs at (left_from from)
-  turn xs xs' from place n next at k e d put h room =
-      ap (λ (l : List ℕ). laid l k (left_from next)) (put ∙ ap (λ (j : ℕ). laid xs at (one (take j (drop place s)))) d)
-      ∙ laid_laid xs _ _ at k h room ∙ ap (laid xs at) (sym (first from place n next e))
+  abbrev pub left_from : W → ℕ → List ℕ
+  left_from w from = written_of one onward w (rest_from read s from).contents
 
   -- where no record is found, nothing is left
-  pub ends : (xs : List ℕ) (from at : ℕ) → read from ≡ ended → laid xs at (left_from from) ≡ xs
-  ends = ends_of read s w all y.none
+  pub ends : (w : W) (xs : List ℕ) (from at : ℕ) → read from ≡ ended → laid xs at (left_from w from) ≡ xs
+  unfolding written_of
+  ends w xs from at e = ap (λ (l : Listing). laid xs at (written_of one onward w l.contents)) (rest_ended read s y from e) ∙ laid_none xs at
 
-  pub stops : (xs : List ℕ) (from at q : ℕ) → read from ≡ refused q → laid xs at (left_from from) ≡ xs
-  stops = stops_of read s w all y.none
+  pub stops : (w : W) (xs : List ℕ) (from at q : ℕ) → read from ≡ refused q → laid xs at (left_from w from) ≡ xs
+  unfolding written_of
+  stops w xs from at q e = ap (λ (l : Listing). laid xs at (written_of one onward w l.contents)) (rest_refused read s y from q e) ∙ laid_none xs at
 
-  pub no_trace_record : (xs : List ℕ) (from at : ℕ) (r : trace.Read) → trace-specs.said r ≡ read from → OneOf (1 ∷ 2 ∷ []) (tag_of trace-read.the_type r)
-      → laid xs at (left_from from) ≡ xs
-  no_trace_record = no_trace_record_of read s w all y.none
+  -- a record that is found
+  module _ (from place n next : ℕ) (e : read from ≡ found place n next) where
+    abbrev content : List ℕ
+    content = take (next - place) (drop place s)
 
-  pub no_capture_record : (xs : List ℕ) (from at : ℕ) (r : capture.Read) → capture-specs.said r ≡ read from → OneOf (1 ∷ 2 ∷ []) (tag_of capture-read.the_type r)
-      → laid xs at (left_from from) ≡ xs
-  no_capture_record = no_capture_record_of read s w all y.none
+    count : next - place ≡ n
+    count = omega (arith, y.behind from place n next e)
 
-pub capture_layout : Layout capture_record capture_records
-unfolding capture_records
-capture_layout = record { none = refl; more = λ c cs. refl }
+    pub content_length : length content ≡ n
+    content_length =
+        ap (λ (k : ℕ). length (take k (drop place s))) count
+        ∙ length-take-le n (drop place s) (omega (arith, y.behind from place n next e, y.inside from place n next e, length-drop place s))
+
+    pub within : length content ≤ limit
+    within = omega (arith, content_length, y.within from place n next e)
+
+    module _ (w : W) where
+      -- its content stands first
+      first : left_from w from ≡ one w content ++ left_from (onward w content) next
+      unfolding written_of
+      first =
+          ap (λ (l : Listing). written_of one onward w l.contents) (rest_found read s y from place n next e)
+          ∙ ap (λ (k : ℕ). one w (take k (drop place s)) ++ left_from (onward w (take k (drop place s))) next) (sym count)
+
+      pub first_length : length (left_from w from) ≡ length (one w content) + length (left_from (onward w content) next)
+      first_length = ap length first ∙ length-append (one w content) (left_from (onward w content) next)
+
+      -- a turn
+      pub turn : (xs xs' : List ℕ) (w' : W) (at k : ℕ) → w' ≡ onward w content → xs' ≡ laid xs at (one w content) → k ≡ at + length (one w content)
+          → at + length (left_from w from) ≤ length xs → laid xs' k (left_from w' next) ≡ laid xs at (left_from w from)
+      turn xs xs' w' at k v put h room =
+          ap₂ (λ (l : List ℕ) (x : W). laid l k (left_from x next)) put v
+          ∙ laid_laid xs (one w content) (left_from (onward w content) next) at k h (omega (arith, first_length))
+          ∙ ap (laid xs at) (sym first)

@@ -83,6 +83,9 @@ pub fn value(answer: Result<usize, Error>) -> usize
 pub trait Records {
     ghost octets: { Self → List ℕ };
 
+    fn octets(&self) -> &[u8]
+        ensures { result.now ≡ octets self.now };
+
     ghost front: { Self → ℕ };
 
     // The place of the first record.
@@ -106,6 +109,10 @@ pub struct Trace<'a> {
 
 impl<'a> Records for Trace<'a> {
     ghost octets = { λ file. file.octets.now };
+
+    fn octets(&self) -> &[u8] {
+        self.octets
+    }
 
     ghost read_at = { λ file. trace.read_at file.octets.now };
 
@@ -131,6 +138,10 @@ pub struct Capture<'a> {
 
 impl<'a> Records for Capture<'a> {
     ghost octets = { λ file. file.octets.now };
+
+    fn octets(&self) -> &[u8] {
+        self.octets
+    }
 
     ghost read_at = { λ file. capture.record_at file.order file.octets.now };
 

@@ -5,7 +5,9 @@ use mathlib.Core.List.{List}
 use Prim.Native.Nat.{ℕ}
 use native.Mathlib.Omega.{arith}
 use Rattle.trace.specs.Trace.{Said, found, ended, refused, said, read_at}
-use Rattle.trace.specs.declared.Read.{Read}
+use Rattle.std.specs.Prelude.{Option, Result}
+use Rattle.trace.specs.declared.Refusal.{Refusal}
+use Rattle.trace.specs.declared.Span.{Span}
 use Rattle.trace_layout.proofs.Inside.{found_inside}
 use Rattle.trace_words.specs.Content.{number_of, content_of, Short}
 use Rattle.seatport.specs.Tracing.{Traced}
@@ -20,6 +22,6 @@ read_short s = by (read_at s 0) refl
     by ended e = tt
     by (refused k) e = tt
 
-pub traced_words : {s : Said} (r : Read) {number : ℕ} {content : List ℕ} → said r ≡ s → number ≡ number_of (said r) → content ≡ content_of (said r)
+pub traced_words : {s : Said} (r : Result (Option Span) Refusal) {number : ℕ} {content : List ℕ} → said r ≡ s → number ≡ number_of (said r) → content ≡ content_of (said r)
     → Traced s number content
 traced_words r h n c = record { answer = n ∙ ap number_of h; words = c ∙ ap content_of h }

@@ -8,8 +8,8 @@ pub extern "C" fn seatport_capture_write(trace: &[u8], capture: &mut [u8], value
     ensures { Captured (write_of trace.now (length capture.old)) capture.old result value.new capture.new }
 {
     let written = pcap::write(trace, capture);
-    *value = written.value() as u64;
-    written.number()
+    *value = pcap_lists::value(written) as u64;
+    pcap_lists::number(written)
 }
 
 #[unsafe(no_mangle)]
@@ -17,6 +17,6 @@ pub extern "C" fn seatport_capture_read(capture: &[u8], trace: &mut [u8], value:
     ensures { Captured (read_of capture.now (length trace.old)) trace.old result value.new trace.new }
 {
     let read = pcap::read(capture, trace);
-    *value = read.value() as u64;
-    read.number()
+    *value = pcap_lists::value(read) as u64;
+    pcap_lists::number(read)
 }

@@ -8,10 +8,10 @@ use Rattle.eyes.specs.Eyes.{shown_in}
 use Rattle.eyes.proofs.Turns.{remaining}
 use Rattle.eyes.proofs.put_shown.Given as goal
 
-abbrev pub invariant-loop-from : goal.invariant-loop-from
-invariant-loop-from l =
+abbrev pub invariant-loop-span : goal.invariant-loop-span
+invariant-loop-span l =
     (l.at + length (remaining l.trace l.«record» l.from) ≤ length l.out) × (length l.out ≡ length l.initial.out) × (length l.buffer ≡ 1518)
     × (laid l.out l.at (remaining l.trace l.«record» l.from) ≡ laid l.initial.out 24 (capture_records (shown_in l.trace)))
 
-abbrev pub decreases-loop-from : goal.decreases-loop-from
-decreases-loop-from l = length l.trace - l.from
+abbrev pub decreases-loop-span : goal.decreases-loop-span
+decreases-loop-span l = length l.trace - l.from

@@ -1,28 +1,62 @@
 -- `pcap::read` meets its contract.
-use mathlib.Core.Path.{refl, sym, ap, ◌∙◌, subst}
+use mathlib.Core.Path.{◌≡◌, sym, ap, ◌∙◌, subst}
+use mathlib.Core.List.{List}
+use Prim.Native.Nat.{ℕ, ◌-◌, ◌*◌}
+use native.Mathlib.Omega.{arith}
 use lib.ListN.{length}
-use Rattle.octets.specs.Laid.{over}
-use Rattle.pcap_lists.specs.Lists.{refused}
-use Rattle.pcap_records.specs.Records.{refusal_number, Opening, opening}
+use Rattle.trace_layout.specs.Layout.{trace_of}
+use Rattle.pcap_fields.specs.declared.Order.{Order}
+use Rattle.pcap_lists.specs.Lists.{Said, good, short, said, judged, records_in}
+use Rattle.pcap_records.specs.Records.{Opening, opens, opening, open_of}
 use Rattle.pcap_records.proofs.Laws.{open_long}
-use Rattle.pcap.specs.Captures.{Outcome, Met, read_in}
+use Rattle.pcap.specs.Captures.{Met, read_in}
+use Rattle.pcap.proofs.Laws.{met_short, met_good}
+use Rattle.pcap.proofs.Lengths.{uncaptured}
 use Rattle.pcap.proofs.read.Goals as goal
 
-pub read_in-requires : goal.read_in-requires
-read_in-requires c =
-    let e = sym c.open-opened.ensures ∙ ap opening c.in-Good.is in
-    open_long _ _ e
+pub overflow_sub-octets : goal.overflow_sub-octets
+overflow_sub-octets c = open_long _ _ (sym c.open.ensures ∙ ap opening c.in-Ok.is)
 
-pub returns-in-Good : goal.returns-in-Good
-returns-in-Good c =
-    let a = c.args in
-    let e = sym c.open-opened.ensures ∙ ap opening c.in-Good.is in
-    let r = c.read_in.ensures in
-    let p : Opening → Outcome = λ x. read_in x a.capture.now (length a.trace.now) in
-    record { answer = r.answer ∙ ap (λ (x : Opening). (p x).answer) (sym e); output = r.output ∙ ap (λ (x : Opening). over (p x).output a.trace.now) (sym e) }
+pub overflow_mul-octets : goal.overflow_mul-octets
+overflow_mul-octets c =
+    let s = c.args.capture.now in
+    let e = sym c.open.ensures ∙ ap opening c.in-Ok.is in
+    let g = sym c.count.ensures ∙ ap said c.in_ok-records.was in
+    let u = uncaptured c.in-Ok.order s _ (open_long _ _ e) g in
+    record { fits = omega (arith, u) }
 
-pub returns-in-Refused : goal.returns-in-Refused
-returns-in-Refused c =
-    let a = c.args in
-    let e = sym c.open-opened.ensures ∙ ap opening c.in-Refused.is in
-    subst (λ (x : Opening). Met (read_in x a.capture.now (length a.trace.now)) a.trace.now (refused (refusal_number c.in-Refused.why) 0) a.trace.now) (sym e) (record { answer = refl; output = refl })
+pub overflow_sub-octets-2 : goal.overflow_sub-octets-2
+overflow_sub-octets-2 c =
+    let s = c.args.capture.now in
+    let e = sym c.open.ensures ∙ ap opening c.in-Ok.is in
+    let g = sym c.count.ensures ∙ ap said c.in_ok-records.was in
+    let u = uncaptured c.in-Ok.order s _ (open_long _ _ e) g in
+    omega (arith, u)
+
+pub returns-then-trace-octets : goal.returns-then-trace-octets
+returns-then-trace-octets c =
+    let s = c.args.capture.now in
+    let out = c.args.trace.now in
+    let e = sym c.open.ensures ∙ ap opening c.in-Ok.is in
+    let g = sym c.count.ensures ∙ ap said c.in_ok-records.was in
+    let u = uncaptured c.in-Ok.order s _ (open_long _ _ e) g in
+    subst (λ (x : Opening). Met (read_in x s (length out)) out (short (length s - 24 - 12 * c.in_ok-records.records)) out) (sym e)
+    (met_short (trace_of (records_in c.in-Ok.order s).contents) out _ _ _ g (omega (arith, u)) (omega (arith, u)) (omega (arith, u, c.if-trace-octets.true)))
+
+pub put_trace-requires : goal.put_trace-requires
+put_trace-requires c =
+    let s = c.args.capture.now in
+    let e = sym c.open.ensures ∙ ap opening c.in-Ok.is in
+    let g = sym c.count.ensures ∙ ap said c.in_ok-records.was in
+    let u = uncaptured c.in-Ok.order s _ (open_long _ _ e) g in
+    omega (arith, u, c.if-trace-octets.false)
+
+pub returns : goal.returns
+returns c =
+    let s = c.args.capture.now in
+    let out = c.args.trace.now in
+    let e = sym c.open.ensures ∙ ap opening c.in-Ok.is in
+    let g = sym c.count.ensures ∙ ap said c.in_ok-records.was in
+    let u = uncaptured c.in-Ok.order s _ (open_long _ _ e) g in
+    subst (λ (x : Opening). Met (read_in x s (length out)) out (good (length s - 24 - 12 * c.in_ok-records.records)) c.put_trace.new.out) (sym e)
+    (met_good (trace_of (records_in c.in-Ok.order s).contents) out _ _ _ g (omega (arith, u)) (omega (arith, u, c.if-trace-octets.false)) c.put_trace.ensures)

@@ -1,6 +1,7 @@
 -- `pcap_lists::count` meets its contract. The invariant: what is said of the records from here on, behind those counted, is said of all.
 use mathlib.Core.Path.{sym, ap, ◌∙◌}
 use native.Mathlib.Omega.{arith}
+use Rattle.std.proofs.Common.{rules, ◌^◌, ◌<◌}
 use Rattle.std.specs.Prelude.{Ok}
 use Rattle.pcap_lists.specs.Lists.{read_said}
 use Rattle.pcap_lists.proofs.Counted.{count_found, count_ended, count_refused}
@@ -28,7 +29,8 @@ loop-span-preserved g c =
     let file = c.args.file.now in
     let l = c.loop-span in
     let e = sym c.read.ensures ∙ ap read_said (c.in-Ok-Some.is ∙ ap Ok c.in-Ok-Some.field-0-is) in
-    let further = (g.met.R.Records.reading file).least l.at _ _ _ e in
-    (omega (arith, further, l.invariant.0),
-      omega (arith, c.read.type_inv),
-      count_found (g.R.Records.read_at file) (g.R.Records.octets file) (g.met.R.Records.reading file) l.records l.at _ _ _ e ∙ l.invariant.2)
+    let further = (g.met.R.Records.reading file).least l.at _ _ _ e in (
+      omega (arith, further, l.invariant.0),
+      (let fits : c.in-Ok-Some.span.next < 2 ^ 64 = search rules in fits),
+      count_found (g.R.Records.read_at file) (g.R.Records.octets file) (g.met.R.Records.reading file) l.records l.at _ _ _ e ∙ l.invariant.2,
+    )
