@@ -76,3 +76,6 @@ module _ (s : List ℕ) (at : ℕ) where
       let fifth : get_or s (at + 1) 0 ≡ five = eqb-true _ _ t.3 in
       let known : get_or s at 0 ≤ greatest = ltb-false _ _ t.2 in
       record { room = omega arith; known = known; fifth = fifth }
+
+-- all of them, for whoever judges an entry
+pub ruleset judging = (header_cut, value_cut, operation_over, length_other, passes)

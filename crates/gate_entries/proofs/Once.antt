@@ -6,8 +6,7 @@ use mathlib.Core.List.{List}
 use Prim.Native.Nat.{ℕ}
 use lib.Dec.{eqb}
 use Rattle.gate_entries.specs.Entries.{Entry, entry_octets, entry_at, fault_at, fitting, refusal_number, judged}
-use Rattle.gate_entries.specs.declared.Judged.{Judged}
-use Rattle.gate_entries.specs.declared.Judged.TheVariants.{Passes, Refused}
+use Rattle.std.specs.Prelude.{Result, Ok, Err}
 use Rattle.gate_entries.specs.declared.Refusal.{Refusal}
 use Rattle.gate_entries.specs.declared.Refusal.TheVariants.{Cut, Operation, Length, Many}
 
@@ -21,22 +20,22 @@ refusal_back Operation = refl
 refusal_back Length = refl
 refusal_back Many = refl
 
-abbrev unjudged : ℕ → Judged
-unjudged q = cond (eqb q 0) Passes (Refused (refusal_of q))
+abbrev unjudged : ℕ → Result (Unit {0}) Refusal
+unjudged q = cond (eqb q 0) (Ok tt) (Err (refusal_of q))
 
-back : (j : Judged) → unjudged (judged j) ≡ j
-back Passes = refl
-back (Refused Cut) = refl
-back (Refused Operation) = refl
-back (Refused Length) = refl
-back (Refused Many) = refl
+back : (j : Result (Unit {0}) Refusal) → unjudged (judged j) ≡ j
+back (Ok _) = refl
+back (Err Cut) = refl
+back (Err Operation) = refl
+back (Err Length) = refl
+back (Err Many) = refl
 
 -- Refusal::number
 pub number_once : (q : Refusal) {x y : ℕ} → x ≡ refusal_number q → y ≡ refusal_number q → x ≡ y
 number_once q p s = p ∙ sym s
 
 -- judge
-pub judge_once : (s : List ℕ) (at : ℕ) {x y : Judged} → judged x ≡ fault_at s at → judged y ≡ fault_at s at → x ≡ y
+pub judge_once : (s : List ℕ) (at : ℕ) {x y : Result (Unit {0}) Refusal} → judged x ≡ fault_at s at → judged y ≡ fault_at s at → x ≡ y
 judge_once s at {x} {y} p q = sym (back x) ∙ ap unjudged (p ∙ sym q) ∙ back y
 
 -- entry_at

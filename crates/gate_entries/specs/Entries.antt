@@ -1,10 +1,8 @@
 -- An entry of the hall switch's gate control list (document 02, (i); source 001, ieee8021STAdminControlList): its octets in the list, the three
 -- words that a reader has of it, and what it is refused for.
 -- Assumes nothing.
-use Rattle.std.specs.Prelude.{Bool, cond, not, ◌&&◌, List, [], ◌∷◌, ℕ, ◌+◌, ◌-◌, ◌/◌, ◌%◌, ltb, leb, eqb, length, get_or}
+use Rattle.std.specs.Prelude.{Bool, cond, not, ◌&&◌, List, [], ◌∷◌, ℕ, ◌+◌, ◌-◌, ◌/◌, ◌%◌, ltb, leb, eqb, length, get_or, Result, Ok, Err}
 use Rattle.fours.specs.Word.{word_of}
-use Rattle.gate_entries.specs.declared.Judged.{Judged}
-use Rattle.gate_entries.specs.declared.Judged.TheVariants.{Passes, Refused}
 use Rattle.gate_entries.specs.declared.Refusal.{Refusal}
 use Rattle.gate_entries.specs.declared.Refusal.TheVariants.{Cut, Operation, Length, Many}
 
@@ -74,6 +72,6 @@ refusal_number Length = 62
 refusal_number Many = 63
 
 -- what is said of an entry by itself, as a number: 0 where it passes
-abbrev pub judged : Judged → ℕ
-judged Passes = 0
-judged (Refused q) = refusal_number q
+abbrev pub judged : Result (Unit {0}) Refusal → ℕ
+judged (Ok _) = 0
+judged (Err q) = refusal_number q

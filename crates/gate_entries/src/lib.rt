@@ -45,63 +45,53 @@ impl Refusal {
     }
 }
 
-// An entry judged by itself.
-#[derive(Clone, Copy)]
-pub enum Judged {
-    Passes,
-    Refused(Refusal),
-}
-
-// The entry at a place of a list.
-pub fn judge(list: &[u8], at: usize) -> Judged
+// The entry at a place of a list, judged by itself: that it passes, or why it is refused.
+#[tactic(auto, using(crate::proofs::Laws::judging))]
+pub fn judge(list: &[u8], at: usize) -> Result<(), Refusal>
     requires { at ≤ length list.now }
     ensures { judged result ≡ fault_at list.now at }
 {
     let left = list.len() - at;
     if left < HEADER {
-        return Judged::Refused(Refusal::Cut);
+        return Err(Refusal::Cut);
     }
     let operation = list[at];
     let length = list[at + 1];
     if left - HEADER < length as usize {
-        return Judged::Refused(Refusal::Cut);
+        return Err(Refusal::Cut);
     }
     if GREATEST < operation {
-        return Judged::Refused(Refusal::Operation);
+        return Err(Refusal::Operation);
     }
     if length != VALUE {
-        return Judged::Refused(Refusal::Length);
+        return Err(Refusal::Length);
     }
-    Judged::Passes
+    Ok(())
 }
 
 // Operation, gates and interval of the entry at a place of a list.
+#[tactic(auto, unfolding(crate::specs::Entries::entry_at))]
 pub fn entry_at(list: &[u8], at: usize) -> [u32; 3]
     requires { at + 7 ≤ length list.now }
     ensures { result ≡ entry_at list.now at }
 {
     [
-        wide(list[at]),
-        wide(list[at + 2]),
+        u32::from(list[at]),
+        u32::from(list[at + 2]),
         fours::joined(list[at + 6], list[at + 5], list[at + 4], list[at + 3]),
     ]
-}
-
-fn wide(octet: u8) -> u32
-    ensures { result ≡ octet }
-{
-    octet as u32
 }
 
 // Whether three words can be an entry of a list: its operation is known, and its gates fit an octet.
 pub fn fits(entry: [u32; 3]) -> bool
     ensures { result ≡ fitting entry }
 {
-    entry[0] <= wide(GREATEST) && entry[1] <= OCTET
+    entry[0] <= u32::from(GREATEST) && entry[1] <= OCTET
 }
 
 // The octets of an entry.
-pub fn octets_of(entry: [u32; 3]) -> [u8; 7]
+#[tactic(auto, unfolding(crate::specs::Entries::entry_octets, fours::specs::Word::octets_of))]
+pub fn octets_of(entry: [u32; 3]) -> [u8; SIZE]
     requires { (operation entry ≤ 2) × (gates entry ≤ 255) }
     ensures { result ≡ entry_octets entry }
 {

@@ -3,10 +3,11 @@
 
 ghost use Rattle.std.specs.Prelude.{◌≡◌, ◌+◌, ◌≤◌, length};
 ghost use Rattle.octets.specs.Laid.{laid, over};
-ghost use Rattle.gate_lists.specs.Lists.{most, good, of_octets, entries_from};
+ghost use Rattle.gate_lists.specs.Lists.{most, entries_from};
 ghost use Rattle.gate_events.specs.Events.{sum_of, event_at, events_from};
 
 use gate_entries::SIZE;
+use gate_lists::Accepted;
 
 // What a list comes to.
 #[derive(Clone, Copy)]
@@ -17,12 +18,6 @@ pub struct Total {
     pub cycle: u64,
 }
 
-fn wide(x: u32) -> u64
-    ensures { (result ≡ x) × (result ≤ 4294967295) }
-{
-    x as u64
-}
-
 // How many events an operation has.
 #[tactic(auto, using(rules::proofs::Tests::tests), unfolding(crate::specs::Events::event_at))]
 fn counted(operation: u32) -> u32
@@ -31,20 +26,24 @@ fn counted(operation: u32) -> u32
     if operation == 0 { 0 } else { 1 }
 }
 
-// What a list of n entries comes to.
-pub fn totals(list: &[u8], n: u32) -> Total
-    requires { of_octets list.now ≡ good n }
-    ensures events { result.events ≡ length (events_from 0 (entries_from n list.now 0)) }
-    ensures cycle { result.cycle ≡ sum_of (entries_from n list.now 0) }
+// An interval as it is summed up, with its bound: as many as a list has come to no more than 64 bits.
+fn wide(interval: u32) -> u64
+    ensures { (result ≡ interval) × (result ≤ 4294967295) }
 {
-    let mut i = 0u32;
+    u64::from(interval)
+}
+
+// What a list comes to.
+pub fn totals(list: Accepted<'_>) -> Total
+    ensures events { result.events ≡ length (events_from 0 (entries_from list.entry.entries list.entry.octets.now 0)) }
+    ensures cycle { result.cycle ≡ sum_of (entries_from list.entry.entries list.entry.octets.now 0) }
+{
     let mut events = 0u32;
     let mut cycle = 0u64;
-    while i < n {
-        let entry = gate_entries::entry_at(list, i as usize * SIZE);
+    for i in 0..list.entries {
+        let entry = gate_entries::entry_at(list.octets, i as usize * SIZE);
         events += counted(entry[0]);
         cycle += wide(entry[2]);
-        i += 1;
     }
     Total { events, cycle }
 }
@@ -58,23 +57,20 @@ fn put_event(time: u64, operation: u32, events: &mut [[u64; 2]], at: usize) -> u
     if operation == 0 {
         return at;
     }
-    events[at] = [time, wide(operation)];
+    events[at] = [time, u64::from(operation)];
     at + 1
 }
 
-// The events of a list of n entries.
-pub fn put_events(list: &[u8], n: u32, events: &mut [[u64; 2]])
-    requires judged { of_octets list.now ≡ good n }
-    requires room { length (events_from 0 (entries_from n list.now 0)) ≤ length events.old }
-    ensures { events.new ≡ over (events_from 0 (entries_from n list.now 0)) events.old }
+// The events of a list.
+pub fn put_events(list: Accepted<'_>, events: &mut [[u64; 2]])
+    requires { length (events_from 0 (entries_from list.entries list.octets.now 0)) ≤ length events.old }
+    ensures { events.new ≡ over (events_from 0 (entries_from list.entry.entries list.entry.octets.now 0)) events.old }
 {
-    let mut i = 0u32;
     let mut next = 0;
     let mut time = 0u64;
-    while i < n {
-        let entry = gate_entries::entry_at(list, i as usize * SIZE);
+    for i in 0..list.entries {
+        let entry = gate_entries::entry_at(list.octets, i as usize * SIZE);
         next = put_event(time, entry[0], events, next);
         time += wide(entry[2]);
-        i += 1;
     }
 }

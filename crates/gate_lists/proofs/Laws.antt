@@ -1,12 +1,13 @@
 -- Walking a list entry by entry, from behind the k entries that passed.
 -- Assumes nothing.
-use mathlib.Core.Path.{◌≡◌, sym, ap, ◌∙◌}
+use mathlib.Core.Path.{◌≡◌, refl, sym, ap, ◌∙◌}
 use mathlib.Core.Bool.{Bool, true, false, cond}
 use mathlib.Core.List.{List, []}
 use Prim.Native.Nat.{ℕ, zero, suc, ◌+◌, ◌-◌, ◌*◌, ◌≤◌, ◌<◌}
 use native.Mathlib.Omega.{arith}
 use native.Mathlib.Numerals.{add-one}
-use borrow.Author.Tests.{le-leb, lt-leb}
+use borrow.Author.Tests.{le-leb, lt-leb, ltb-true, ltb-false}
+use lib.Dec.{ltb}
 use lib.ListN.{length, get_or}
 use Rattle.rules.proofs.Tests.{tests}
 use Rattle.gate_entries.specs.Entries.{size, Entry, fitting}
@@ -67,3 +68,24 @@ module _ (ended : ℕ → Bool) (fault : ℕ → ℕ) where
   at_next k h e f =
       let m : most - k ≡ suc (most - (k + 1)) = omega arith in
       ap (walk ended fault (most - (k + 1))) (add-one k) ∙ sym (ap (λ (x : ℕ). walk ended fault x k) m ∙ walk_on (most - (k + 1)) k e f)
+
+  -- what the walk says of the whole list, told behind the k entries that passed: with a 257th it is refused
+  abbrev pub behind : ℕ → Said
+  behind k = cond (ltb most k) (refused 63 k) (from k)
+
+  pub at_place : (k : ℕ) → k ≤ most → behind k ≡ from k
+  at_place k h = simp tests
+
+  pub behind_all : (k : ℕ) → k ≡ most + 1 → behind k ≡ refused 63 (most + 1)
+  behind_all k h = ap behind h
+
+  behind_next : (k : ℕ) (t : Bool) → ltb k most ≡ t → k ≤ most → ended k ≡ false → fault k ≡ 0 → behind (k + 1) ≡ behind k
+  behind_next k true t h e f =
+      let less : k < most = ltb-true k most t in
+      at_place (k + 1) (omega arith) ∙ at_next k less e f ∙ sym (at_place k h)
+  behind_next k false t h e f =
+      let last : k ≡ most = omega (arith, ltb-false k most t) in
+      behind_all (k + 1) (omega arith) ∙ ap (λ (x : ℕ). refused 63 (x + 1)) (sym last) ∙ sym (at_most k last e f) ∙ sym (at_place k h)
+
+  pub one_more : (k : ℕ) → k ≤ most → ended k ≡ false → fault k ≡ 0 → behind (k + 1) ≡ behind k
+  one_more k = behind_next k (ltb k most) refl

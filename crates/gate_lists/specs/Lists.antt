@@ -1,9 +1,9 @@
 -- Whether a gate control list is accepted (document 02, (i)): entry by entry, as octets that are read and as entries that are to be written.
 -- Assumes nothing.
-use Rattle.std.specs.Prelude.{Bool, cond, List, [], ◌∷◌, ◌++◌, ℕ, zero, suc, ◌*◌, leb, eqb, length, get_or}
+use Rattle.std.specs.Prelude.{Bool, cond, List, [], ◌∷◌, ◌++◌, ℕ, zero, suc, ◌*◌, leb, eqb, length, get_or, Result, Ok, Err}
 use Rattle.gate_entries.specs.Entries.{size, Entry, entry_at, entry_octets, fault_at, fitting, refusal_number}
-use Rattle.gate_lists.specs.declared.Answer.{Answer}
-use Rattle.gate_lists.specs.declared.Answer.TheVariants.{Good, Refused, Short}
+use Rattle.gate_lists.specs.declared.Error.{Error}
+use Rattle.gate_lists.specs.declared.Error.TheVariants.{Refused, Short}
 
 -- the most entries of a list
 abbrev pub most : ℕ
@@ -16,10 +16,10 @@ pub data Said : Type 0 where
   refused : ℕ → ℕ → Said
   short : ℕ → Said
 
-abbrev pub said : Answer → Said
-said (Good n) = good n
-said (Refused why k) = refused (refusal_number why) k
-said (Short n) = short n
+abbrev pub said : Result ℕ Error → Said
+said (Ok n) = good n
+said (Err (Refused why k)) = refused (refusal_number why) k
+said (Err (Short n)) = short n
 
 -- an answer in the paper's numbers, "then 64, lent output too short", 0 where there is no refusal; and the number that goes with it
 abbrev pub number_of : Said → ℕ

@@ -9,28 +9,15 @@ use lib.Dec.{ltb}
 use lib.ListN.{length}
 use Rattle.rules.proofs.Tests.{tests}
 use Rattle.octets.specs.Laid.{over}
-use Rattle.gate_lists.specs.Lists.{Said, good, refused, short, said, number_of, value_of, of_octets, entries_from}
-use Rattle.gate_lists.specs.declared.Answer.{Answer}
-use Rattle.gate_lists.specs.declared.Answer.TheVariants.{Good, Refused, Short}
+use Rattle.gate_lists.specs.Lists.{Said, good, refused, short, number_of, value_of, of_octets, entries_from}
 use Rattle.gate_lists.proofs.Contents.{length_from}
 use Rattle.gate_lists.proofs.Good.{not_good}
-use Rattle.gates.specs.Gates.{Outcome, outcome, Met, entries_in, entries_of, cycle_of}
+use Rattle.gates.specs.Gates.{Outcome, outcome, Met, entries_in, entries_of}
 
 short_not_good : (k n : ℕ) → short k ≡ good n → ⊥
 short_not_good k n e = let z : ◌≡◌ {A = ℕ} 64 0 = ap number_of e in absurd (let y : ⊥ = omega arith in y)
 
--- an answer that is one of the other two is not good
-abbrev Other : Answer → Type 0
-Other a = (n : ℕ) → a ≡ Good n → ⊥
-
 module _ {A : Type 0} (xs out : List A) where
-  -- a list that is not good is answered so, and nothing is written
-  pub met_refused : (a : Answer) (s : Said) → said a ≡ s → Other a → Met (outcome s xs (length out)) out (said a) out
-  met_refused (Good n) s e o = absurd (o n refl)
-  met_refused (Refused why k) s e o =
-      subst (λ (x : Said). Met (outcome x xs (length out)) out (said (Refused why k)) out) e (record { answer = refl; output = refl })
-  met_refused (Short n) s e o = subst (λ (x : Said). Met (outcome x xs (length out)) out (short n) out) e (record { answer = refl; output = refl })
-
   pub met_short : (n k : ℕ) (s : Said) → s ≡ good n → k ≡ length xs → length out < length xs → Met (outcome s xs (length out)) out (short k) out
   met_short n k s e l h =
       let o : outcome s xs (length out) ≡ record { answer = short (length xs); output = [] } =
@@ -76,12 +63,6 @@ room xs ys out k s a out' g e h m =
     let o : outcome s xs (length out) ≡ record { answer = good (length ys); output = ys } =
     ap₂ (λ (x : Said) (l : List _). outcome x l (length out)) g e ∙ simp tests in
     (m.answer ∙ ap (λ (x : Outcome _). x.answer) o, m.output ∙ ap (λ (x : Outcome _). over x.output out) o)
-
--- where nothing is listed there is no cycle
-pub refused_cycle : (s : List ℕ) (a : Answer) → Other a → 0 ≡ cycle_of (said a) s
-refused_cycle s (Good n) o = absurd (o n refl)
-refused_cycle s (Refused why k) o = refl
-refused_cycle s (Short n) o = refl
 
 -- the entries of a good list
 pub entries_of_lem : (s : List ℕ) (n : ℕ) → of_octets s ≡ good n → entries_of s ≡ entries_from n s 0

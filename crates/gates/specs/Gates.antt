@@ -1,10 +1,12 @@
 -- The three calls on the hall's schedule (document 02, (i)): a list read, written back, and its events. Each judges the whole list first, then
 -- its lent output: "A refusal writes nothing". Assumes nothing.
-use Rattle.std.specs.Prelude.{◌≡◌, cond, List, [], ℕ, ltb, length}
+use Rattle.std.specs.Prelude.{◌≡◌, cond, List, [], ℕ, ltb, length, Result, Ok, Err}
 use Rattle.octets.specs.Laid.{over}
 use Rattle.gate_entries.specs.Entries.{Entry}
 use Rattle.gate_lists.specs.Lists.{Said, good, refused, short, of_octets, of_entries, entries_from, octets_of_all}
+use Rattle.gate_lists.specs.declared.Error.{Error}
 use Rattle.gate_events.specs.Events.{Event, sum_of, events_from}
+use Rattle.gate_events.specs.declared.Total.{Total}
 
 -- what is answered, and what then stands at the output's front
 pub record Outcome (A : Type 0) : Type 0 where
@@ -49,3 +51,12 @@ cycle_of (short n) s = 0
 pub record Met {A : Type 0} (p : Outcome A) (out : List A) (a : Said) (out' : List A) : Type 0 where
   pub answer : a ≡ p.answer
   pub output : out' ≡ over p.output out
+
+-- what listing answers: how many events, as the other calls answer how many they wrote; and the length of the cycle, 0 where nothing is listed
+abbrev pub counted : Result Total Error → Result ℕ Error
+counted (Ok t) = Ok t.events
+counted (Err e) = Err e
+
+abbrev pub told_cycle : Result Total Error → ℕ
+told_cycle (Ok t) = t.cycle
+told_cycle (Err e) = 0

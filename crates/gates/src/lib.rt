@@ -4,71 +4,56 @@
 
 ghost use Rattle.std.specs.Prelude.{◌≡◌, length};
 ghost use Rattle.gate_lists.specs.Lists.{said};
-ghost use Rattle.gates.specs.Gates.{Met, read_of, write_of, events_of, cycle_of};
+ghost use Rattle.gates.specs.Gates.{Met, counted, told_cycle, read_of, write_of, events_of, cycle_of};
 
 use gate_entries::SIZE;
-use gate_lists::Answer;
-
-// What listing the events answers, and the length of the cycle in nanoseconds, 0 where nothing is listed.
-#[derive(Clone, Copy)]
-pub struct Listed {
-    pub answer: Answer,
-    pub cycle: u64,
-}
+use gate_events::Total;
+use gate_lists::{Accepted, Answer, Error};
 
 // The entries of a list: of each its operation, gates and interval in nanoseconds.
 pub fn read_list(list: &[u8], entries: &mut [[u32; 3]]) -> Answer
     ensures { Met (read_of list.now (length entries.old)) entries.old (said result) entries.new }
 {
-    let judged = gate_lists::of_octets(list);
-    let Answer::Good(n) = judged else {
-        return judged;
-    };
+    let n = gate_lists::of_octets(list)?;
     if entries.len() < n as usize {
-        return Answer::Short(n);
+        return Err(Error::Short(n));
     }
-    gate_contents::put_entries(list, n, entries);
-    Answer::Good(n)
+    let accepted = Accepted {
+        octets: list,
+        entries: n,
+    };
+    gate_contents::put_entries(accepted, entries);
+    Ok(n)
 }
 
 // The octets of entries, seven each.
 pub fn write_list(entries: &[[u32; 3]], list: &mut [u8]) -> Answer
     ensures { Met (write_of entries.now (length list.old)) list.old (said result) list.new }
 {
-    let judged = gate_lists::of_entries(entries);
-    let Answer::Good(n) = judged else {
-        return judged;
-    };
+    let n = gate_lists::of_entries(entries)?;
     let octets = n * SIZE as u32;
     if list.len() < octets as usize {
-        return Answer::Short(octets);
+        return Err(Error::Short(octets));
     }
-    gate_contents::put_octets(entries, n, list);
-    Answer::Good(octets)
+    gate_contents::put_octets(entries, list);
+    Ok(octets)
 }
 
-// The holds and releases of a list: of each its time in nanoseconds from the cycle's start, and 1 for hold or 2 for release.
-pub fn list_events(list: &[u8], events: &mut [[u64; 2]]) -> Listed
-    ensures met { Met (events_of list.now (length events.old)) events.old (said result.answer) events.new }
-    ensures cycle { result.cycle ≡ cycle_of (said result.answer) list.now }
+// The holds and releases of a list: of each its time in nanoseconds from the cycle's start, and 1 for hold or 2 for release. It answers how many
+// there are, and the length of the cycle in nanoseconds.
+pub fn list_events(list: &[u8], events: &mut [[u64; 2]]) -> Result<Total, Error>
+    ensures met { Met (events_of list.now (length events.old)) events.old (said (counted result)) events.new }
+    ensures cycle { told_cycle result ≡ cycle_of (said (counted result)) list.now }
 {
-    let judged = gate_lists::of_octets(list);
-    let Answer::Good(n) = judged else {
-        return Listed {
-            answer: judged,
-            cycle: 0,
-        };
+    let n = gate_lists::of_octets(list)?;
+    let accepted = Accepted {
+        octets: list,
+        entries: n,
     };
-    let total = gate_events::totals(list, n);
+    let total = gate_events::totals(accepted);
     if events.len() < total.events as usize {
-        return Listed {
-            answer: Answer::Short(total.events),
-            cycle: 0,
-        };
+        return Err(Error::Short(total.events));
     }
-    gate_events::put_events(list, n, events);
-    Listed {
-        answer: Answer::Good(total.events),
-        cycle: total.cycle,
-    }
+    gate_events::put_events(accepted, events);
+    Ok(total)
 }

@@ -9,7 +9,7 @@ ghost use Rattle.std.specs.Prelude.{◌≤◌, length};
 
 use crate::reading::ENOUGH;
 use crate::trouble::Trouble;
-use gate_lists::Answer;
+use gate_lists::Error;
 use programs::{SIGPIPE, Unwritten, is_given};
 use std::env::Env;
 use std::io::{IsTerminal, Print, Read};
@@ -26,16 +26,6 @@ const MOST: usize = 256;
 // The room for all lines: one of 29 octets at most for each event, and the last one, of 27 at most.
 const ROOM: usize = MOST * 29 + 27;
 
-// The first n events, or all where there are fewer.
-fn first(events: &[[u64; 2]], n: usize) -> &[[u64; 2]]
-    ensures { length result.now ≤ length events.now }
-{
-    if n < events.len() {
-        return &events[0..n];
-    }
-    events
-}
-
 // All lines, in one piece.
 fn write(rt: HostRuntime, events: &[[u64; 2]], cycle: u64) -> Result<(), Unwritten>
     requires { length events.now ≤ 256 }
@@ -50,12 +40,10 @@ fn write(rt: HostRuntime, events: &[[u64; 2]], cycle: u64) -> Result<(), Unwritt
 // answer does not come.
 fn list(rt: HostRuntime, octets: &[u8]) -> Result<(), Trouble> {
     let mut events = [[0u64; 2]; MOST];
-    let listed = gates::list_events(octets, &mut events);
-    let answer = listed.answer;
-    match answer {
-        Answer::Good(n) => write(rt, first(&events, n as usize), listed.cycle)?,
-        Answer::Refused { why, entry } => return Err(Trouble::Refused { why, entry }),
-        Answer::Short(_) => {}
+    match gates::list_events(octets, &mut events) {
+        Ok(total) => write(rt, front(&events, total.events as usize), total.cycle)?,
+        Err(Error::Refused { why, entry }) => return Err(Trouble::Refused { why, entry }),
+        Err(Error::Short(_)) => {}
     }
     Ok(())
 }
@@ -66,12 +54,8 @@ fn list_file<R: Read + IsTerminal>(rt: HostRuntime, file: &mut R) -> Result<(), 
         return Err(Trouble::Terminal);
     }
     let mut octets = [0u8; ENOUGH];
-    let taken = reading::take(file, &mut octets);
-    if taken.failed {
-        return Err(Trouble::Unread);
-    }
-    let count = taken.count;
-    list(rt, &octets[0..count])
+    let count = reading::take(file, &mut octets).map_err(|_| Trouble::Unread)?;
+    list(rt, &octets[..count])
 }
 
 // The list in the file of a name, or on standard input.

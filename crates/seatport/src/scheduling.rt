@@ -8,8 +8,8 @@ pub extern "C" fn seatport_gates_read(list: &[u8], entries: &mut [[u32; 3]], cou
     ensures { Scheduled (read_of list.now (length entries.old)) entries.old result count.new entries.new }
 {
     let read = gates::read_list(list, entries);
-    *count = read.value();
-    read.number()
+    *count = gate_lists::value(read);
+    gate_lists::number(read)
 }
 
 #[unsafe(no_mangle)]
@@ -21,8 +21,8 @@ pub extern "C" fn seatport_gates_write(
     ensures { Scheduled (write_of entries.now (length list.old)) list.old result written.new list.new }
 {
     let wrote = gates::write_list(entries, list);
-    *written = wrote.value();
-    wrote.number()
+    *written = gate_lists::value(wrote);
+    gate_lists::number(wrote)
 }
 
 #[unsafe(no_mangle)]
@@ -34,9 +34,16 @@ pub extern "C" fn seatport_gates_events(
 ) -> u32
     ensures { Listed (events_of list.now (length events.old)) list.now events.old result count.new cycle.new events.new }
 {
-    let listed = gates::list_events(list, events);
-    let answer = listed.answer;
-    *count = answer.value();
-    *cycle = listed.cycle;
-    answer.number()
+    match gates::list_events(list, events) {
+        Ok(total) => {
+            *count = total.events;
+            *cycle = total.cycle;
+            gate_lists::number(Ok(total.events))
+        }
+        Err(error) => {
+            *count = gate_lists::value(Err(error));
+            *cycle = 0;
+            gate_lists::number(Err(error))
+        }
+    }
 }

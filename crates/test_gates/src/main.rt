@@ -27,7 +27,7 @@ fn entry_at(octets: &[u8], at: usize) -> [u32; 3]
 fn long_at(octets: &[u8], at: usize) -> u64
     requires { at + 8 ≤ length octets.now }
 {
-    fours::load(octets, at) as u64 + fours::load(octets, at + 4) as u64 * 4294967296
+    u64::from(fours::load(octets, at)) + u64::from(fours::load(octets, at + 4)) * 4294967296
 }
 
 fn event_at(octets: &[u8], at: usize) -> [u64; 2]
@@ -39,39 +39,32 @@ fn event_at(octets: &[u8], at: usize) -> [u64; 2]
 fn take_entries(octets: &[u8; 3600], entries: &mut [[u32; 3]])
     requires { length entries.old ≤ 300 }
 {
-    for i in 0..entries.len() {
-        entries[i] = entry_at(octets, i * 12);
+    for (i, entry) in entries.iter_mut().enumerate() {
+        *entry = entry_at(octets, i * 12);
     }
 }
 
 fn take_events(octets: &[u8; 4800], events: &mut [[u64; 2]])
     requires { length events.old ≤ 300 }
 {
-    for i in 0..events.len() {
-        events[i] = event_at(octets, i * 16);
+    for (i, event) in events.iter_mut().enumerate() {
+        *event = event_at(octets, i * 16);
     }
 }
 
 // The first n entries or events, or all where there are fewer.
-fn front_entries(entries: &[[u32; 3]], n: usize) -> &[[u32; 3]] {
-    if entries.len() < n {
-        return entries;
+fn front<T>(s: &[T], n: usize) -> &[T] {
+    if s.len() < n {
+        return s;
     }
-    &entries[0..n]
+    &s[..n]
 }
 
-fn front_entries_mut(entries: &mut [[u32; 3]], n: usize) -> &mut [[u32; 3]] {
-    if entries.len() < n {
-        return entries;
+fn front_mut<T>(s: &mut [T], n: usize) -> &mut [T] {
+    if s.len() < n {
+        return s;
     }
-    &mut entries[0..n]
-}
-
-fn front_events_mut(events: &mut [[u64; 2]], n: usize) -> &mut [[u64; 2]] {
-    if events.len() < n {
-        return events;
-    }
-    &mut events[0..n]
+    &mut s[..n]
 }
 
 // Lent memory for n of them, or for all of the space where there are fewer; no call wrote it.
@@ -81,7 +74,7 @@ fn lent_entries(space: &mut [[u32; 3]], n: usize, first: u8) -> &mut [[u32; 3]]
     let mut octets = [0u8; 3600];
     read::lent(&mut octets, 3600, first);
     take_entries(&octets, space);
-    front_entries_mut(space, n)
+    front_mut(space, n)
 }
 
 fn lent_events(space: &mut [[u64; 2]], n: usize, first: u8) -> &mut [[u64; 2]]
@@ -90,7 +83,7 @@ fn lent_events(space: &mut [[u64; 2]], n: usize, first: u8) -> &mut [[u64; 2]]
     let mut octets = [0u8; 4800];
     read::lent(&mut octets, 4800, first);
     take_events(&octets, space);
-    front_events_mut(space, n)
+    front_mut(space, n)
 }
 
 // The FCS of all of the lent memory, its words as octets again.
@@ -132,8 +125,8 @@ fn say_octets(rt: HostRuntime, list: &[u8]) {
 }
 
 fn say_answer(rt: HostRuntime, answer: Answer) {
-    say::number(rt, answer.number() as u64);
-    say::number(rt, answer.value() as u64);
+    say::number(rt, u64::from(gate_lists::number(answer)));
+    say::number(rt, u64::from(gate_lists::value(answer)));
 }
 
 fn read_list(rt: HostRuntime, q: Question) -> Went {
@@ -172,7 +165,7 @@ fn write_list(rt: HostRuntime, q: Question) -> Went {
         return Went::Broken;
     }
     take_entries(&given, &mut entries);
-    let answer = gates::write_list(front_entries(&entries, n), out);
+    let answer = gates::write_list(front(&entries, n), out);
     say::text(rt, b"write");
     say_answer(rt, answer);
     say_octets(rt, out);
@@ -192,10 +185,9 @@ fn list_events(rt: HostRuntime, q: Question) -> Went {
         return Went::Broken;
     }
     let listed = gates::list_events(read::front(&list, n), out);
-    let answer = listed.answer;
     say::text(rt, b"events");
-    say_answer(rt, answer);
-    say::number(rt, listed.cycle);
+    say_answer(rt, listed.map(|total| total.events));
+    say::number(rt, listed.map_or(0, |total| total.cycle));
     say_events(rt, out);
     say::line_end(rt)
 }

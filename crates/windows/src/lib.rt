@@ -13,8 +13,8 @@ use std::marker::Model;
 // trace or of a capture, and a capture's header, read as in the whole input (the theorems of captures, Window).
 pub const LONGEST: usize = 1616;
 
-// The first n octets, or all where there are fewer.
-pub fn front(s: &[u8], n: usize) -> &[u8]
+// The first n, or all where there are fewer.
+pub fn front<T>(s: &[T], n: usize) -> &[T]
     ensures { (length result.now ≤ n) × (length result.now ≤ length s.now) }
 {
     if n < s.len() {

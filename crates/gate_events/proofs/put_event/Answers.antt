@@ -16,17 +16,11 @@ returns-then-operation-eq0 c =
     let l : length (event_at a.time a.operation) ≡ 0 = ap length none in
     record { place = omega arith; output = sym (ap (laid a.events.now a.at) none ∙ laid_none a.events.now a.at) }
 
-pub offset_bounds-events-at : goal.offset_bounds-events-at
-offset_bounds-events-at c = omega (arith, c.requires.0)
-
 pub bounds-events-at : goal.bounds-events-at
 bounds-events-at c =
     let a = c.args in
     let l : length (event_at 0 a.operation) ≡ 1 = ap length (one_at 0 a.operation c.if-operation-eq0.false) in
     omega (arith, c.requires.1)
-
-pub overflow_add-result : goal.overflow_add-result
-overflow_add-result c = omega (arith, c.requires.0)
 
 pub returns : goal.returns
 returns c =
@@ -37,7 +31,7 @@ returns c =
     record {
       place = omega arith;
       output =
-          ap (λ (o : ℕ). set a.events.now a.at (event a.time o)) c.wide.ensures.0
+          ap (λ (o : ℕ). set a.events.now a.at (event a.time o)) c.from.ensures
           ∙ set_one a.events.now a.at (event a.time a.operation) (omega (arith, c.requires.1))
           ∙ ap (laid a.events.now a.at) (sym one);
     }

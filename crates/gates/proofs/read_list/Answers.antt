@@ -2,31 +2,21 @@
 use mathlib.Core.Path.{sym, ap, ◌∙◌}
 use native.Mathlib.Omega.{arith}
 use Rattle.octets.specs.Laid.{over}
-use Rattle.gate_lists.specs.Lists.{said}
 use Rattle.gates.specs.Gates.{entries_of}
-use Rattle.gates.proofs.Laws.{met_refused, met_short, met_good, entries_of_lem, count_of}
+use Rattle.gates.proofs.Laws.{met_short, met_good, entries_of_lem, count_of}
 use Rattle.gates.proofs.read_list.Goals as goal
-
-pub returns-in_default : goal.returns-in_default
-returns-in_default c =
-    let a = c.args in
-    met_refused (entries_of a.list.now) a.entries.now c.of_octets-judged.result _ c.of_octets-judged.ensures c.in_default.not-Good
 
 pub returns-then-entries-n : goal.returns-then-entries-n
 returns-then-entries-n c =
     let a = c.args in
-    let g = sym c.of_octets-judged.ensures ∙ ap said c.in-Good.is in
+    let g = sym c.in_ok-n.ensures in
     let l = count_of a.list.now _ g in
     met_short (entries_of a.list.now) a.entries.now _ _ _ g l (omega (arith, c.if-entries-n.true, l))
-
-pub put_entries-requires : goal.put_entries-requires
-put_entries-requires c =
-    (sym c.of_octets-judged.ensures ∙ ap said c.in-Good.is, c.if-entries-n.false)
 
 pub returns : goal.returns
 returns c =
     let a = c.args in
-    let g = sym c.of_octets-judged.ensures ∙ ap said c.in-Good.is in
+    let g = sym c.in_ok-n.ensures in
     let l = count_of a.list.now _ g in
     met_good (entries_of a.list.now) a.entries.now _ _ _ g l (omega (arith, c.if-entries-n.false, l))
     (c.put_entries.ensures ∙ ap (λ x. over x a.entries.now) (sym (entries_of_lem a.list.now _ g)))
