@@ -54,9 +54,7 @@ fn list_file<R: Read + IsTerminal>(rt: HostRuntime, file: &mut R) -> Result<(), 
         return Err(Trouble::Terminal);
     }
     let mut octets = [0u8; ENOUGH];
-    let Ok(count) = reading::take(file, &mut octets) else {
-        return Err(Trouble::Unread);
-    };
+    let count = reading::take(file, &mut octets).map_err(|_| Trouble::Unread)?;
     list(rt, &octets[..count])
 }
 

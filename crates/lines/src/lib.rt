@@ -14,6 +14,7 @@ pub fn title(out: &mut [u8], at: usize) -> usize
 }
 
 // Two numbers, each behind a blank, and the end of the line.
+#[tactic(auto, using(text::proofs::Laws::digits_length))]
 fn pair(a: u64, b: u64, out: &mut [u8], at: usize) -> usize
     requires { at + 43 ≤ length out.old }
     ensures { Put (pair_line a b) at out.old result out.new }
@@ -24,6 +25,7 @@ fn pair(a: u64, b: u64, out: &mut [u8], at: usize) -> usize
 }
 
 // A record's number, its answer and the detail.
+#[tactic(auto, using(text::proofs::Laws::digits_length))]
 pub fn record_line(number: u64, answer: u64, detail: u64, out: &mut [u8], at: usize) -> usize
     requires { at + 63 ≤ length out.old }
     ensures { Put (record_line number answer detail) at out.old result out.new }
@@ -42,6 +44,7 @@ pub fn stop_line(number: u64, refusal: u64, out: &mut [u8], at: usize) -> usize
 }
 
 // The counters, in document 01's order.
+#[tactic(auto, using(text::proofs::Laws::digits_length))]
 pub fn end_line(
     errors: u64,
     delimiters: u64,

@@ -14,6 +14,7 @@ pub struct Listed {
 }
 
 // One record of the trace, given to the receiver, and its line.
+#[tactic(auto, using(crate::proofs::Laws::line_as))]
 pub fn list(
     number: u64,
     content: &[u8],

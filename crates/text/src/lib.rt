@@ -1,10 +1,12 @@
-// Lines of text laid into lent memory: decimal numbers parted by blanks.
+// Lines of text laid into lent memory: decimal numbers parted by blanks. Memory and place stay two parameters, as in `lines`, `listing` and
+// `hold_lines`: `Put` holds at any place of any lent memory, and a type with memory of a const size would ask more of who calls.
 #![tactic(auto)]
 
 ghost use Rattle.std.specs.Prelude.{◌∷◌, [], ◌+◌, ◌<◌, ◌≤◌, length};
 ghost use Rattle.text.specs.Text.{Put, decimal_of, blank};
 
 // One octet at a place; the place behind it.
+#[tactic(auto, using(octets::proofs::Laid::set_one))]
 pub fn octet(x: u8, out: &mut [u8], at: usize) -> usize
     requires { at < length out.old }
     ensures { Put (x ∷ []) at out.old result out.new }

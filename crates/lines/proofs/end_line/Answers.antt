@@ -4,16 +4,6 @@ use Rattle.lines.proofs.Laws.{pair_length}
 use Rattle.text.proofs.Laws.{put_put, digits_length}
 use Rattle.lines.proofs.end_line.Goals as goal
 
-pub next_number-third-requires : goal.next_number-third-requires
-next_number-third-requires c =
-    let a = c.args in
-    omega (arith, digits_length 20 a.errors, c.next_number-second.ensures.place, c.words-first.ensures.place)
-
-pub pair-requires : goal.pair-requires
-pair-requires c =
-    let a = c.args in
-    omega (arith, digits_length 20 a.errors, digits_length 20 a.delimiters, c.next_number-third.ensures.place, c.next_number-second.ensures.place, c.words-first.ensures.place)
-
 pub returns : goal.returns
 returns c =
     let a = c.args in

@@ -3,14 +3,6 @@ use native.Mathlib.Omega.{arith}
 use Rattle.text.proofs.Laws.{put_put, digits_length}
 use Rattle.lines.proofs.pair.Goals as goal
 
-pub next_number-third-requires : goal.next_number-third-requires
-next_number-third-requires c = omega (arith, digits_length 20 c.args.a, c.next_number-second.ensures.place)
-
-pub octet-requires : goal.octet-requires
-octet-requires c =
-    let a = c.args in
-    omega (arith, digits_length 20 a.a, digits_length 20 a.b, c.next_number-second.ensures.place, c.next_number-third.ensures.place)
-
 pub returns : goal.returns
 returns c =
     let a = c.args in

@@ -4,9 +4,6 @@ use Rattle.lines.proofs.Laws.{pair_length}
 use Rattle.text.proofs.Laws.{put_put, digits_length}
 use Rattle.lines.proofs.record_line.Goals as goal
 
-pub pair-requires : goal.pair-requires
-pair-requires c = omega (arith, digits_length 20 c.args.number, c.number-next.ensures.place)
-
 pub returns : goal.returns
 returns c =
     let a = c.args in
