@@ -20,21 +20,33 @@ pub struct Sending {
 fn check(register: u32, done: bool) -> [u8; 4]
     ensures { result ≡ check_of register done }
 {
-    if done { crc::fcs(register) } else { crc::mcrc(register) }
+    if done {
+        crc::fcs(register)
+    } else {
+        crc::mcrc(register)
+    }
 }
 
 #[tactic(auto, unfolding(crate::specs::Preemptable::frame_after))]
 fn frame_after(r: Record) -> FrameCount
     ensures { result ≡ frame_after r }
 {
-    if r.length == 0 && r.active { r.next.next() } else { r.next }
+    if r.length == 0 && r.active {
+        r.next.next()
+    } else {
+        r.next
+    }
 }
 
 #[tactic(auto, unfolding(crate::specs::Preemptable::fragment_after))]
 fn fragment_after(r: Record) -> FragmentCount
     ensures { result ≡ fragment_after r }
 {
-    if r.length == 0 { FragmentCount::ZERO } else { r.fragment.next() }
+    if r.length == 0 {
+        FragmentCount::ZERO
+    } else {
+        r.fragment.next()
+    }
 }
 
 fn moved(r: Record, n: usize, to: usize, done: bool) -> Record

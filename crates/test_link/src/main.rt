@@ -49,7 +49,11 @@ fn express(x: u32, out: &mut [u8; 1530]) -> Result<Written, Refusal> {
 
 // The ask of a preemptable call, from two draws.
 fn ask_of(a: u32, t: u32) -> Option<usize> {
-    if chance::one_of(a, 4) == 0 { None } else { Some(chance::one_of(t, 400) as usize) }
+    if chance::one_of(a, 4) == 0 {
+        None
+    } else {
+        Some(chance::one_of(t, 400) as usize)
+    }
 }
 
 // A frame chosen for a preemptable call, where none is in progress.

@@ -42,7 +42,10 @@ fn behind(frame: usize, asked: usize) -> usize {
 
 // The most over every moment of a frame.
 fn most_of(frame: usize) -> usize {
-    (0..frame).map(|asked| behind(frame, asked)).max().unwrap_or(0)
+    (0..frame)
+        .map(|asked| behind(frame, asked))
+        .max()
+        .unwrap_or(0)
 }
 
 // The most over every frame up to one of so many octets.
