@@ -59,7 +59,8 @@ pub fn delimiter_of(octet: u8) -> Delimiter
     }
 }
 
-// What an octet says as a fragment code; any other octet than the four says nothing.
+// What an octet says as a fragment code; any other than the four says nothing. They are the starts' codes, in a table of their own: of the
+// must-fail edits, `starts_exchanged` makes that one wrong alone, and `fragment_codes_exchanged` this one.
 #[tactic(auto, using(rules::proofs::Tests::tests), unfolding(crate::specs::Delimiters::fragment_of, crate::specs::Delimiters::meaning))]
 pub fn fragment_of(octet: u8) -> Option<FragmentCount>
     ensures { result ≡ fragment_of octet }

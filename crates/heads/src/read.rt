@@ -33,8 +33,10 @@ fn sized(kind: Kind, place: usize, length: usize) -> Result<Head, Fault>
 fn fragmented(frame: FrameCount, code: usize, mframe: &[u8]) -> Result<Head, Fault>
     ensures { reading result ≡ fragmented_of frame code mframe.now }
 {
-    let octet = *mframe.get(code).ok_or(Fault::Short)?;
-    let fragment = delimiters::fragment_of(octet).ok_or(Fault::Fragment)?;
+    if mframe.len() <= code {
+        return Err(Fault::Short);
+    }
+    let fragment = delimiters::fragment_of(mframe[code]).ok_or(Fault::Fragment)?;
     sized(Kind::Continuation(frame, fragment), code + 1, mframe.len())
 }
 
@@ -61,8 +63,10 @@ pub fn head_of(mframe: &[u8]) -> Result<Head, Fault>
     if place == TOO_MANY as usize {
         return Err(Fault::Preamble);
     }
-    let octet = *mframe.get(place).ok_or(Fault::Short)?;
-    delimited(delimiters::delimiter_of(octet), place + 1, mframe)
+    if mframe.len() <= place {
+        return Err(Fault::Short);
+    }
+    delimited(delimiters::delimiter_of(mframe[place]), place + 1, mframe)
 }
 
 // Whether octets have a head that is not refused.

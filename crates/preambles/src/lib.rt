@@ -31,9 +31,9 @@ pub fn lead(mframe: &[u8]) -> u32
     ensures { result ≡ min 8 (leading mframe.now) }
 {
     for n in front(mframe)..TOO_MANY {
-        let Some(0x55) = mframe.get(n as usize) else {
+        if mframe.len() <= n as usize || mframe[n as usize] != 0x55 {
             return n;
-        };
+        }
     }
     TOO_MANY
 }
