@@ -18,6 +18,13 @@ Read n wait e = SomeIff e (is_event n ≡ true) (event_of n wait)
 pub event_at_once : (n wait : ℕ) (x y : Option Event) → Read n wait x → Read n wait y → x ≡ y
 event_at_once n wait = some_once _ _
 
+-- what it tests, and what it then reads
+pub is_event_once : (n : ℕ) {x y : Bool} → x ≡ is_event n → y ≡ is_event n → x ≡ y
+is_event_once n p q = p ∙ sym q
+
+pub event_of_once : (n wait : ℕ) {x y : Event} → x ≡ event_of n wait → y ≡ event_of n wait → x ≡ y
+event_of_once n wait p q = p ∙ sym q
+
 -- number_of
 pub number_of_once : (a : Result Bool Refusal) {x y : ℕ} → x ≡ (said a).number → y ≡ (said a).number → x ≡ y
 number_of_once a p q = p ∙ sym q
