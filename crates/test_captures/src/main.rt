@@ -10,7 +10,7 @@ use test_questions::{read, say};
 
 // An answer, and the FCS of all of the lent memory.
 fn say_answer(rt: HostRuntime, answer: Result<usize, Error>, lent: &[u8]) -> Went {
-    say::number(rt, pcap_lists::number(answer) as u64);
+    say::number(rt, u64::from(pcap_lists::number(answer)));
     say::number(rt, pcap_lists::value(answer) as u64);
     say::octets(rt, crc::fcs(crc::over(crc::ALL_ONES, lent)));
     say::line_end(rt)
