@@ -22,6 +22,7 @@ fn put_shown(trace: &[u8], out: &mut [u8])
     let mut buffer = [0u8; BODY_MOST];
     let mut record = Record::fresh();
     pcap_headers::put_file_header(out);
+    // No `pcap_contents::Writer`: the receiver's buffer would be part of it, and of the definition of what it is behind each record.
     let mut from = 0;
     let mut at = FILE_HEADER;
     loop {

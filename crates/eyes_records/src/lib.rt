@@ -15,15 +15,10 @@ use receiver_record::Record;
 fn has_mcrc(answer: Answer) -> bool
     ensures { result ≡ has_mcrc answer }
 {
-    match answer {
-        Answer::Express(_) => false,
-        Answer::Delivered(_) => false,
-        Answer::Kept(_) => true,
-        Answer::VerifyHeard => true,
-        Answer::RespondHeard => true,
-        Answer::Refused(_) => false,
-        Answer::Dropped(_) => false,
-    }
+    matches!(
+        answer,
+        Answer::Kept(_) | Answer::VerifyHeard | Answer::RespondHeard
+    )
 }
 
 // The last four octets inverted, so that they end at a place: of an mCRC of document 01 they are the standard's.
