@@ -26,7 +26,7 @@ fn counted(operation: u32) -> u32
     if operation == 0 { 0 } else { 1 }
 }
 
-// An interval as it is summed up, with its bound: as many as a list has come to no more than 64 bits.
+// An interval as it is summed up, with its bound: with `u64::from` alone the invariant of `totals` did not close (`loop-i-preserved`).
 fn wide(interval: u32) -> u64
     ensures { (result ≡ interval) × (result ≤ 4294967295) }
 {

@@ -13,6 +13,7 @@ pub(crate) fn take<R: Read>(file: &mut R, octets: &mut [u8]) -> io::Result<usize
     ensures { IfOk result (λ count. count ≤ length octets.old) }
 {
     let mut count = 0;
+    // No iterator is plainer: each turn adds as many octets as a read gave.
     while count < octets.len() {
         let more = file.read(&mut octets[count..])?;
         if more == 0 {

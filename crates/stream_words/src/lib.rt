@@ -76,6 +76,7 @@ pub fn number_of(answer: Result<(), Refusal>) -> u32
 
 // What the first receiver answers to an mFrame that runs over, by the words of its record; it changes nothing.
 // That the words are nine is told for callers, who lend them.
+#[tactic(auto, using(rules::proofs::Tests::tests), unfolding(crate::specs::State::too_long))]
 pub fn too_long(receiver: [u32; 9], room: usize) -> First
     ensures { (refused result ≡ says (too_long receiver room) 0) × (length receiver ≡ 9) }
 {

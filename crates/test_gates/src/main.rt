@@ -2,7 +2,7 @@
 // the reference alone.
 #![tactic(auto)]
 
-ghost use Rattle.std.specs.Prelude.{◌+◌, ◌≤◌, length};
+ghost use Rattle.std.specs.Prelude.{◌+◌, ◌<◌, ◌≤◌, length};
 
 use gate_lists::Answer;
 use std::process::ExitCode;
@@ -13,15 +13,29 @@ use test_questions::{read, say};
 // The most entries that a question gives; so many entries or events it can have room for.
 const MOST: usize = 300;
 
-// Entries and events out of octets, the low octet of a word first: those of a question, or of memory that no call wrote.
-fn entry_at(octets: &[u8], at: usize) -> [u32; 3]
-    requires { at + 12 ≤ length octets.now }
-{
-    [
-        fours::load(octets, at),
-        fours::load(octets, at + 4),
-        fours::load(octets, at + 8),
-    ]
+// A row of words: an entry or an event.
+trait Row: Copy {
+    // The row of this number out of octets, the low octet of a word first: those of a question, or of memory that no call wrote.
+    fn taken(octets: &[u8; 4800], i: usize) -> Self
+        requires { i < 300 };
+
+    // The FCS register over the row's words, as octets again.
+    fn over(self, register: u32) -> u32;
+}
+
+impl Row for [u32; 3] {
+    fn taken(octets: &[u8; 4800], i: usize) -> [u32; 3] {
+        let at = i * 12;
+        [
+            fours::load(octets, at),
+            fours::load(octets, at + 4),
+            fours::load(octets, at + 8),
+        ]
+    }
+
+    fn over(self, register: u32) -> u32 {
+        over_word(over_word(over_word(register, self[0]), self[1]), self[2])
+    }
 }
 
 fn long_at(octets: &[u8], at: usize) -> u64
@@ -30,44 +44,32 @@ fn long_at(octets: &[u8], at: usize) -> u64
     u64::from(fours::load(octets, at)) + u64::from(fours::load(octets, at + 4)) * 4294967296
 }
 
-fn event_at(octets: &[u8], at: usize) -> [u64; 2]
-    requires { at + 16 ≤ length octets.now }
-{
-    [long_at(octets, at), long_at(octets, at + 8)]
-}
+impl Row for [u64; 2] {
+    fn taken(octets: &[u8; 4800], i: usize) -> [u64; 2] {
+        let at = i * 16;
+        [long_at(octets, at), long_at(octets, at + 8)]
+    }
 
-fn take_entries(octets: &[u8; 3600], entries: &mut [[u32; 3]])
-    requires { length entries.old ≤ 300 }
-{
-    for (i, entry) in entries.iter_mut().enumerate() {
-        *entry = entry_at(octets, i * 12);
+    fn over(self, register: u32) -> u32 {
+        over_long(over_long(register, self[0]), self[1])
     }
 }
 
-fn take_events(octets: &[u8; 4800], events: &mut [[u64; 2]])
-    requires { length events.old ≤ 300 }
+fn take<T: Row>(octets: &[u8; 4800], rows: &mut [T])
+    requires { length rows.old ≤ 300 }
 {
-    for (i, event) in events.iter_mut().enumerate() {
-        *event = event_at(octets, i * 16);
+    for (i, row) in rows.iter_mut().enumerate() {
+        *row = T::taken(octets, i);
     }
 }
 
 // Lent memory for n of them; no call wrote it.
-fn lent_entries(space: &mut [[u32; 3]], n: usize, first: u8) -> Result<&mut [[u32; 3]], Stop>
-    requires { length space.old ≤ 300 }
-{
-    let mut octets = [0u8; 3600];
-    read::lent(&mut octets, 3600, first)?;
-    take_entries(&octets, space);
-    space.get_mut(..n).ok_or(Stop::Broken)
-}
-
-fn lent_events(space: &mut [[u64; 2]], n: usize, first: u8) -> Result<&mut [[u64; 2]], Stop>
+fn lent<T: Row>(space: &mut [T], n: usize, first: u8) -> Result<&mut [T], Stop>
     requires { length space.old ≤ 300 }
 {
     let mut octets = [0u8; 4800];
     read::lent(&mut octets, 4800, first)?;
-    take_events(&octets, space);
+    take(&octets, space);
     space.get_mut(..n).ok_or(Stop::Broken)
 }
 
@@ -81,26 +83,10 @@ fn over_long(register: u32, long: u64) -> u32 {
     over_word(low, (long / 4294967296) as u32)
 }
 
-fn over_entry(register: u32, entry: [u32; 3]) -> u32 {
-    over_word(over_word(over_word(register, entry[0]), entry[1]), entry[2])
-}
-
-fn over_event(register: u32, event: [u64; 2]) -> u32 {
-    over_long(over_long(register, event[0]), event[1])
-}
-
-fn say_entries(rt: HostRuntime, entries: &[[u32; 3]]) {
+fn say_rows<T: Row>(rt: HostRuntime, rows: &[T]) {
     let mut register = crc::ALL_ONES;
-    for &entry in entries {
-        register = over_entry(register, entry);
-    }
-    say::octets(rt, crc::fcs(register));
-}
-
-fn say_events(rt: HostRuntime, events: &[[u64; 2]]) {
-    let mut register = crc::ALL_ONES;
-    for &event in events {
-        register = over_event(register, event);
+    for row in rows {
+        register = row.over(register);
     }
     say::octets(rt, crc::fcs(register));
 }
@@ -118,16 +104,16 @@ fn read_list(rt: HostRuntime, q: Question) -> Result<(), Stop> {
     let mut list = [0u8; 2048];
     let mut space = [[0u32; 3]; 300];
     let list = read::octets(rt, &mut list, q.short(1))?;
-    let out = lent_entries(&mut space, q.short(3), q.octet(5))?;
+    let out = lent(&mut space, q.short(3), q.octet(5))?;
     let answer = gates::read_list(list, out);
     say::text(rt, b"read");
     say_answer(rt, answer);
-    say_entries(rt, out);
+    say_rows(rt, out);
     say::line_end(rt)
 }
 
 fn write_list(rt: HostRuntime, q: Question) -> Result<(), Stop> {
-    let mut given = [0u8; 3600];
+    let mut given = [0u8; 4800];
     let mut entries = [[0u32; 3]; 300];
     let mut space = [0u8; 2048];
     let n = q.short(1);
@@ -136,7 +122,7 @@ fn write_list(rt: HostRuntime, q: Question) -> Result<(), Stop> {
     }
     read::octets(rt, &mut given, n * 12)?;
     let out = read::lent(&mut space, q.short(3), q.octet(5))?;
-    take_entries(&given, &mut entries);
+    take(&given, &mut entries);
     let answer = gates::write_list(read::front(&entries, n), out);
     say::text(rt, b"write");
     say_answer(rt, answer);
@@ -148,12 +134,12 @@ fn list_events(rt: HostRuntime, q: Question) -> Result<(), Stop> {
     let mut list = [0u8; 2048];
     let mut space = [[0u64; 2]; 300];
     let list = read::octets(rt, &mut list, q.short(1))?;
-    let out = lent_events(&mut space, q.short(3), q.octet(5))?;
+    let out = lent(&mut space, q.short(3), q.octet(5))?;
     let listed = gates::list_events(list, out);
     say::text(rt, b"events");
     say_answer(rt, listed.map(|total| total.events));
     say::number(rt, listed.map_or(0, |total| total.cycle));
-    say_events(rt, out);
+    say_rows(rt, out);
     say::line_end(rt)
 }
 
