@@ -1,13 +1,11 @@
 -- `pcap::read` meets its contract.
-use mathlib.Core.Path.{◌≡◌, sym, ap, ◌∙◌, subst}
-use mathlib.Core.List.{List}
-use Prim.Native.Nat.{ℕ, ◌-◌, ◌*◌}
+use mathlib.Core.Path.{sym, ap, ◌∙◌, subst}
+use Prim.Native.Nat.{◌-◌, ◌*◌}
 use native.Mathlib.Omega.{arith}
 use lib.ListN.{length}
 use Rattle.trace_layout.specs.Layout.{trace_of}
-use Rattle.pcap_fields.specs.declared.Order.{Order}
-use Rattle.pcap_lists.specs.Lists.{Said, good, short, said, judged, records_in}
-use Rattle.pcap_records.specs.Records.{Opening, opens, opening, open_of}
+use Rattle.pcap_lists.specs.Lists.{good, short, said, records_in}
+use Rattle.pcap_records.specs.Records.{Opening, opening}
 use Rattle.pcap_records.proofs.Laws.{open_long}
 use Rattle.pcap.specs.Captures.{Met, read_in}
 use Rattle.pcap.proofs.Laws.{met_short, met_good}

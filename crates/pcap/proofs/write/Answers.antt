@@ -4,7 +4,7 @@ use lib.ListN.{length}
 use Rattle.trace_layout.specs.Layout.{read_all}
 use Rattle.pcap_headers.specs.Headers.{capture_of}
 use Rattle.pcap_lists.specs.Lists.{said, judged}
-use Rattle.pcap.proofs.Laws.{met_unwritten, fitting}
+use Rattle.pcap.proofs.Laws.{fitting}
 use Rattle.pcap.proofs.write.Goals as goal
 
 pub put_capture-requires : goal.put_capture-requires

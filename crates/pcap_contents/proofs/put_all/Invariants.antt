@@ -1,7 +1,6 @@
 -- `pcap_contents::put_all` meets its contract. The invariant: what is left, laid over the slice as it is now, makes the slice asked for.
 use mathlib.Core.Path.{◌≡◌}
-use mathlib.Core.List.{List}
-use Prim.Native.Nat.{ℕ, ◌+◌, ◌-◌, ◌≤◌}
+use Prim.Native.Nat.{◌+◌, ◌-◌, ◌≤◌}
 use lib.ListN.{length}
 use Rattle.octets.specs.Laid.{laid}
 use Rattle.trace_layout.specs.Layout.{rest_from}
