@@ -146,7 +146,7 @@ impl Copying {
     ) -> Result<(), Trouble> {
         self.out.make_room(LONGEST, output)?;
         self.put(start, end);
-        self.number = std::num::wrapping_add_u64(self.number, 1);
+        self.number = self.number.wrapping_add(1);
         self.window.pass(end);
         Ok(())
     }

@@ -2,7 +2,7 @@
 // window of it, one frame in assembly and some lines are kept.
 #![tactic(auto)]
 
-mod listing_of;
+mod records;
 mod trouble;
 
 use programs::{SIGPIPE, Unwritten, is_given};
@@ -24,7 +24,7 @@ pub fn run(rt: HostRuntime) -> ExitCode {
         );
         return ExitCode::SUCCESS;
     }
-    match listing_of::list_all(rt) {
+    match records::list_all(rt) {
         Ok(None) => {}
         Ok(Some(trouble)) => {
             let _ = eprintln!(rt; "mmlist: {trouble}");

@@ -1,6 +1,4 @@
-// The listing of a trace, line by line.
-ghost use Rattle.std.specs.Prelude.{◌+◌, ◌≤◌, length};
-
+// The listing of a trace, record by record.
 use crate::trouble::Trouble;
 use mframe::BODY_MOST;
 use programs::Unwritten;
@@ -98,7 +96,7 @@ impl Listing {
         );
         self.receiver = listed.after;
         self.text.end = listed.next;
-        self.number = std::num::wrapping_add_u64(self.number, 1);
+        self.number = self.number.wrapping_add(1);
         self.window.pass(end);
         Ok(())
     }
