@@ -69,6 +69,7 @@ impl Cursor {
     }
 
     // The record at the cursor, the end, or why the record there is refused.
+    #[tactic(auto, using(crate::proofs::Laws::read_end, crate::proofs::Laws::header_cut, crate::proofs::Laws::length_over, crate::proofs::Laws::kind_other, crate::proofs::Laws::content_cut, crate::proofs::Laws::read_whole))]
     pub fn read(self, trace: &[u8]) -> Result<Option<Span>, Refusal>
         ensures { said result ≡ read_at trace.now self.at }
     {
