@@ -19,12 +19,19 @@ pub fn put_entries(list: Accepted<'_>, entries: &mut [[u32; 3]])
     }
 }
 
-// The octets of an entry at a place of a list.
+// Seven octets at a place of a list, one by one: copy_from_slice of so few misses the board's goal for a list that is written (1.26 times plain C;
+// the goal is 1.25, and this takes 1.04).
 fn put_at(octets: [u8; SIZE], list: &mut [u8], at: usize)
     requires { at + 7 ≤ length list.old }
     ensures { list.new ≡ laid list.old at octets }
 {
-    list[at..at + SIZE].copy_from_slice(&octets);
+    list[at] = octets[0];
+    list[at + 1] = octets[1];
+    list[at + 2] = octets[2];
+    list[at + 3] = octets[3];
+    list[at + 4] = octets[4];
+    list[at + 5] = octets[5];
+    list[at + 6] = octets[6];
 }
 
 // The octets of entries that were all judged good.

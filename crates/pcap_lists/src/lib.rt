@@ -3,12 +3,12 @@
 
 ghost use Rattle.std.specs.Prelude.{◌≡◌, ℕ, List, length};
 ghost use Rattle.trace.specs.Trace as trace;
-ghost use Rattle.trace_layout.specs.Layout.{Reading, rest_from};
-ghost use Rattle.trace_layout.proofs.Inside.{trace_reading};
+ghost use Rattle.trace_layout.specs.Layout.{Headed, rest_from};
+ghost use Rattle.trace_layout.proofs.Inside.{trace_headed};
 ghost use Rattle.pcap_records.specs.Records as capture;
 ghost use Rattle.pcap_lists.specs.Lists.{why_number, read_said, said, number_of, value_of, judged};
 ghost use Rattle.pcap_lists.specs.declared.Why.TheVariants as W;
-ghost use Rattle.pcap_records.proofs.Inside.{capture_reading};
+ghost use Rattle.pcap_records.proofs.Inside.{capture_headed};
 
 use pcap_fields::Order;
 use pcap_records::FILE_HEADER;
@@ -98,7 +98,7 @@ pub trait Records {
     fn read(&self, at: usize) -> Result<Option<Span>, Why>
         ensures { read_said result ≡ read_at self.now at };
 
-    ghost reading: { (file : Self) → Reading (read_at file) (octets file) };
+    ghost reading: { (file : Self) → Headed (read_at file) (octets file) };
 }
 
 // A trace that is to be written as a capture.
@@ -122,8 +122,9 @@ impl<'a> Records for Trace<'a> {
         0
     }
 
-    ghost reading = { λ file. trace_reading file.octets.now };
+    ghost reading = { λ file. trace_headed file.octets.now };
 
+    #[inline(always)]
     fn read(&self, at: usize) -> Result<Option<Span>, Why> {
         Ok(Cursor { at }.read(self.octets)?)
     }
@@ -151,8 +152,9 @@ impl<'a> Records for Capture<'a> {
         FILE_HEADER
     }
 
-    ghost reading = { λ file. capture_reading file.order file.octets.now };
+    ghost reading = { λ file. capture_headed file.order file.octets.now };
 
+    #[inline(always)]
     fn read(&self, at: usize) -> Result<Option<Span>, Why> {
         Ok(pcap_records::record_at(self.order, self.octets, at)?)
     }
