@@ -27,6 +27,14 @@ pub fn event_at(n: u32, wait: u32) -> Option<Event>
     }
 }
 
+// The event that a number is, and of a number that is none the failure of the link.
+#[tactic(auto, unfolding(crate::specs::Events::is_event, crate::specs::Events::event_of))]
+pub fn event_of(n: u32, wait: u32) -> Event
+    ensures { result ≡ event_of n wait }
+{
+    event_at(n, wait).unwrap_or(Event::LinkFailed)
+}
+
 // The number that is returned.
 pub fn number_of(answer: Answer) -> u32
     ensures { result ≡ (said answer).number }
