@@ -30,7 +30,8 @@ fn capture_header(length: u32) -> [u8; 16]
     ]
 }
 
-// A record of a capture, from place at on.
+// A record of a capture, from place at on. That a content is no longer than 1,600 octets is asked for at each call: a type over a slice would ask
+// callers for a value of it.
 pub fn put_capture_record(content: &[u8], out: &mut [u8], at: usize)
     requires { (length content.now ≤ 1600) × (at + 16 + length content.now ≤ length out.old) }
     ensures { out.new ≡ laid out.old at (capture_record content.now) }

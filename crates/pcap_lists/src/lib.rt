@@ -48,7 +48,8 @@ impl From<pcap_records::Refusal> for Why {
     }
 }
 
-// What a call that is given a trace or a capture answers where it does nothing.
+// What a call that is given a trace or a capture answers where it does nothing. gate_lists has its like over u32: one type of both would need a trait
+// of refusals with numbers and a const for each of 64 and 78, which is no plainer.
 #[derive(Clone, Copy)]
 pub enum Error {
     // Why it is refused, and the record's number, the first being 1, and 0 where it is a capture's header.
@@ -164,6 +165,7 @@ impl<'a> Records for Capture<'a> {
 pub fn count<R: Records>(file: &R) -> Result<usize, Error>
     ensures { said result ≡ judged (rest_from (R.read_at file.now) (R.octets file.now) (R.front file.now)) }
 {
+    // No iterator: what stands next is a Result of an Option, and the law of the trait speaks of a place.
     let mut records = 0;
     let mut at = file.front();
     loop {

@@ -1,5 +1,5 @@
-// Lines of text laid into lent memory: decimal numbers parted by blanks. Memory and place stay two parameters, as in `lines`, `listing` and
-// `hold_lines`: `Put` holds at any place of any lent memory, and a type with memory of a const size would ask more of who calls.
+// Lines of text laid into lent memory: decimal numbers parted by blanks. Memory and place stay two parameters, as in `lines`, `listing`, `hold_lines`,
+// `octets` and what makes captures: `Put` and `laid` hold at any place of any lent memory, and memory of a const size would ask more of who calls.
 #![tactic(auto)]
 
 ghost use Rattle.std.specs.Prelude.{◌∷◌, [], ◌+◌, ◌<◌, ◌≤◌, length};

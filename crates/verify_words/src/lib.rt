@@ -22,7 +22,8 @@ pub fn link_in(words: [u32; 5]) -> Option<Record>
     })
 }
 
-// The record that five words are where three are octets: a phase over 3 is that of a link that failed, and an owed flag is set where it is 1.
+// The record that five words are where three are octets: a phase over 3 is that of a link that failed, and an owed flag is set where it is 1. It
+// stands beside `link_in` for what it promises of words that are no record's.
 pub fn link_of(words: [u32; 5]) -> Record
     requires { (word words 1 ≤ 255) × (word words 2 ≤ 255) × (word words 4 ≤ 255) }
     ensures { result ≡ link_of words }
