@@ -1,13 +1,13 @@
--- One turn of each loop: an entry, or the octets of one, laid over what was there before, and what is then left to do; and seven octets stored
--- one by one.
+-- One turn of each loop: an entry, or the octets of one, laid over what was there before, and what is then left to do.
 -- Assumes nothing.
 use mathlib.Core.Path.{◌≡◌, refl, sym, ap, ◌∙◌}
-use mathlib.Core.List.{List, [], ◌∷◌}
+use mathlib.Core.List.{List, [], ◌∷◌, ◌++◌, append_assoc}
 use Prim.Native.Nat.{ℕ, ◌+◌, ◌-◌, ◌*◌, ◌≤◌, ◌<◌}
 use native.Mathlib.Omega.{arith}
-use native.Mathlib.Numerals.{add-one, add-two, add-three, add-four, add_five, add_six}
-use lib.ListN.{length, get_or, set, drop, length-drop, drop_of_length-le}
-use lib.Seq.{drop-cons, sets-eq}
+use native.Mathlib.Numerals.{add-one}
+use borrow.Rule.Slice.PartMut.{put_mid}
+use lib.ListN.{length, get_or, set, take, drop, length-drop, drop_of_length-le}
+use lib.Seq.{drop-cons, drop-drop}
 use Rattle.octets.specs.Laid.{laid}
 use Rattle.octets.proofs.Laid.{laid_none, laid_laid, set_one}
 use Rattle.gate_entries.specs.Entries.{size, Entry, entry_at, entry_octets}
@@ -43,28 +43,9 @@ pub all_put : (es : List Entry) (xs : List ℕ) (i : ℕ) → length es ≤ i �
 unfolding octets_of_all
 all_put es xs i h = ap (λ (l : List Entry). laid xs (i * size) (octets_of_all l)) (drop_of_length-le es h) ∙ laid_none xs (i * size)
 
--- seven octets stored
-stored : (a b c d e f g : ℕ) (xs : List ℕ) (i : ℕ) → i + 7 ≤ length xs
-    → set (set (set (set (set (set (set xs i a) (i + 1) b) (i + 2) c) (i + 3) d) (i + 4) e) (i + 5) f) (i + 6) g
-    ≡ laid xs i (a ∷ b ∷ c ∷ d ∷ e ∷ f ∷ g ∷ [])
+-- the octets of an entry copied over a part that is as long
+pub copied : (p xs : List ℕ) (at k : ℕ) → k ≡ length p → put_mid at k xs p ≡ laid xs at p
 unfolding laid
-stored a b c d e f g xs i h =
-    rw (add-one, add-two, add-three, add-four, add_five, add_six) (sets-eq (a ∷ b ∷ c ∷ d ∷ e ∷ f ∷ g ∷ []) xs i h)
-
--- what an array of seven is
-listed : (p : List ℕ) → length p ≡ 7
-    → get_or p 0 0 ∷ get_or p 1 0 ∷ get_or p 2 0 ∷ get_or p 3 0 ∷ get_or p 4 0 ∷ get_or p 5 0 ∷ get_or p 6 0 ∷ [] ≡ p
-listed p n = sym (
-    drop-cons p 0 0 (omega arith)
-    ∙ ap (λ (l : List ℕ). get_or p 0 0 ∷ l) (drop-cons p 1 0 (omega arith)
-    ∙ ap (λ (l : List ℕ). get_or p 1 0 ∷ l) (drop-cons p 2 0 (omega arith)
-    ∙ ap (λ (l : List ℕ). get_or p 2 0 ∷ l) (drop-cons p 3 0 (omega arith)
-    ∙ ap (λ (l : List ℕ). get_or p 3 0 ∷ l) (drop-cons p 4 0 (omega arith)
-    ∙ ap (λ (l : List ℕ). get_or p 4 0 ∷ l) (drop-cons p 5 0 (omega arith)
-    ∙ ap (λ (l : List ℕ). get_or p 5 0 ∷ l) (drop-cons p 6 0 (omega arith)
-    ∙ ap (λ (l : List ℕ). get_or p 6 0 ∷ l) (drop_of_length-le p (let z : length p ≤ 7 = omega arith in z)))))))))
-
-pub seven_stored : (p xs : List ℕ) (i : ℕ) → length p ≡ 7 → i + 7 ≤ length xs
-    → set (set (set (set (set (set (set xs i (get_or p 0 0)) (i + 1) (get_or p 1 0)) (i + 2) (get_or p 2 0)) (i + 3) (get_or p 3 0)) (i + 4) (get_or p 4 0)) (i + 5) (get_or p 5 0)) (i + 6) (get_or p 6 0)
-    ≡ laid xs i p
-seven_stored p xs i n h = stored _ _ _ _ _ _ _ xs i h ∙ ap (laid xs i) (listed p n)
+copied p xs at k e =
+    sym (append_assoc (take at xs) p (drop k (drop at xs)))
+    ∙ ap (λ (l : List ℕ). take at xs ++ p ++ l) (drop-drop k at xs ∙ ap (λ (n : ℕ). drop (at + n) xs) e)

@@ -19,19 +19,12 @@ pub fn put_entries(list: Accepted<'_>, entries: &mut [[u32; 3]])
     }
 }
 
-// Seven octets at a place of a list, one by one: copy_from_slice of so few misses the board's goal for a list that is written (1.26 times plain C;
-// the goal is 1.25, and this takes 1.04).
+// The octets of an entry at a place of a list.
 fn put_at(octets: [u8; SIZE], list: &mut [u8], at: usize)
     requires { at + 7 ≤ length list.old }
     ensures { list.new ≡ laid list.old at octets }
 {
-    list[at] = octets[0];
-    list[at + 1] = octets[1];
-    list[at + 2] = octets[2];
-    list[at + 3] = octets[3];
-    list[at + 4] = octets[4];
-    list[at + 5] = octets[5];
-    list[at + 6] = octets[6];
+    list[at..at + SIZE].copy_from_slice(&octets);
 }
 
 // The octets of entries that were all judged good.
@@ -39,8 +32,9 @@ pub fn put_octets(entries: &[[u32; 3]], list: &mut [u8])
     requires { (of_entries entries.now ≡ good (length entries.now)) × (length entries.now * size ≤ length list.old) }
     ensures { list.new ≡ over (octets_of_all entries.now) list.old }
 {
-    for (i, entry) in entries.iter().enumerate() {
-        let octets = gate_entries::octets_of(*entry);
-        put_at(octets, list, i * SIZE);
+    // Counted in a u32: counted in a usize, which has 64 bits on the board too, a list that is written misses its goal.
+    for i in 0..entries.len() as u32 {
+        let octets = gate_entries::octets_of(entries[i as usize]);
+        put_at(octets, list, i as usize * SIZE);
     }
 }

@@ -1,30 +1,14 @@
 -- `gate_contents::put_at` meets its contract.
+use mathlib.Core.Path.{◌≡◌, ap, ◌∙◌}
 use native.Mathlib.Omega.{arith}
-use lib.ListN.{length-set}
-use Rattle.gate_contents.proofs.Turns.{seven_stored}
 use borrow.Author.Rules.{rules}
+use borrow.Rule.Slice.PartMut.{put_mid}
+use lib.ListN.{length}
+use Rattle.gate_contents.proofs.Turns.{copied}
 use Rattle.gate_contents.proofs.put_at.Goals as goal
 
-pub bounds-list-at-2 : goal.bounds-list-at-2
-bounds-list-at-2 c = simp length-set (omega arith)
-
-pub bounds-list-at-3 : goal.bounds-list-at-3
-bounds-list-at-3 c = simp length-set (omega arith)
-
-pub bounds-list-at-4 : goal.bounds-list-at-4
-bounds-list-at-4 c = simp length-set (omega arith)
-
-pub bounds-list-at-5 : goal.bounds-list-at-5
-bounds-list-at-5 c = simp length-set (omega arith)
-
-pub bounds-list-at-6 : goal.bounds-list-at-6
-bounds-list-at-6 c = simp length-set (omega arith)
-
-pub bounds-list-at-7 : goal.bounds-list-at-7
-bounds-list-at-7 c = simp length-set (omega arith)
-
-pub shape_of-list : goal.shape_of-list
-shape_of-list c = simp length-set
-
 pub returns : goal.returns
-returns c = seven_stored c.args.octets c.args.list.now c.args.at (search rules) c.requires
+returns c =
+    let a = c.args in
+    let seven : length a.octets ≡ 7 = search rules in
+    ap (put_mid a.at _ a.list.now) c.copy_from_slice.ensures.after ∙ copied a.octets a.list.now a.at _ (omega arith)
