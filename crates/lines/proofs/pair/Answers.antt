@@ -1,12 +1,25 @@
 -- `lines::pair` meets its contract.
 use native.Mathlib.Omega.{arith}
-use Rattle.text.proofs.Laws.{put_put, digits_length}
+use Rattle.text.proofs.Laws.{puts_puts, digits_length}
 use Rattle.lines.proofs.pair.Goals as goal
+
+pub next_number-requires-2 : goal.next_number-requires-2
+next_number-requires-2 c =
+    let first = c.next_number.ensures in
+    omega (arith, digits_length 20 c.args.a, first.put.place, first.long)
+
+pub octet-requires : goal.octet-requires
+octet-requires c =
+    let a = c.args in
+    let first = c.next_number.ensures in
+    let second = c.next_number-2.ensures in
+    omega (arith, digits_length 20 a.a, digits_length 20 a.b, first.put.place, first.long, second.put.place, second.long)
 
 pub returns : goal.returns
 returns c =
     let a = c.args in
-    let first = c.next_number-second.ensures in
-    let second = c.next_number-third.ensures in
+    let first = c.next_number.ensures in
+    let second = c.next_number-2.ensures in
     let third = c.octet.ensures in
-    put_put first (put_put second third (omega (arith, digits_length 20 a.a, digits_length 20 a.b, first.place, second.place, third.place))) (omega (arith, digits_length 20 a.a, digits_length 20 a.b, first.place, second.place, third.place))
+    let both = puts_puts second third (omega (arith, digits_length 20 a.a, digits_length 20 a.b, first.put.place, first.long, second.put.place, third.put.place)) in
+    puts_puts first both (omega (arith, digits_length 20 a.a, digits_length 20 a.b, first.put.place, second.put.place, third.put.place))
