@@ -33,7 +33,7 @@ abbrev line_of : List ℕ → List ℕ
 line_of e = event_line (get_or e 0 0) (get_or e 1 0)
 
 -- all events
-events_length : (es : List (List ℕ)) → length (event_lines es) ≤ length es * 29
+pub events_length : (es : List (List ℕ)) → length (event_lines es) ≤ length es * 29
 unfolding event_lines
 events_length [] = omega arith
 events_length (e ∷ es) =

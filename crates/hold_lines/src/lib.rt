@@ -24,6 +24,7 @@ fn word_line(page: &mut Page, operation: u64)
 }
 
 // An event: when, in nanoseconds from the cycle's start, and what happens.
+#[tactic(auto, using(text::proofs::Laws::digits_length))]
 fn event_line(page: &mut Page, time: u64, operation: u64)
     requires { page.old.at + 29 ≤ length page.old.out.now }
     ensures { Puts (event_line time operation) page.old page.new }
@@ -43,6 +44,7 @@ fn event_lines(page: &mut Page, events: &[[u64; 2]])
 }
 
 // The length of the cycle in nanoseconds.
+#[tactic(auto, using(text::proofs::Laws::digits_length))]
 fn cycle_line(page: &mut Page, cycle: u64)
     requires { page.old.at + 27 ≤ length page.old.out.now }
     ensures { Puts (cycle_line cycle) page.old page.new }
@@ -53,6 +55,7 @@ fn cycle_line(page: &mut Page, cycle: u64)
 }
 
 // A line for each event, of 29 octets at most, and the last one, of 27 at most; how many octets they are. An event is its time and its operation.
+#[tactic(auto, using(crate::proofs::Laws::events_length))]
 pub fn all_lines(events: &[[u64; 2]], cycle: u64, out: &mut [u8]) -> usize
     requires { length events.now * 29 + 27 ≤ length out.old }
     ensures { Put (all_lines events.now cycle) 0 out.old result out.new }

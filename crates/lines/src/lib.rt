@@ -16,6 +16,7 @@ pub fn title(page: &mut Page)
 }
 
 // Two numbers, each behind a blank, and the end of the line.
+#[tactic(auto, using(text::proofs::Laws::digits_length))]
 fn pair(page: &mut Page, a: u64, b: u64)
     requires { page.old.at + 43 ≤ length page.old.out.now }
     ensures { Puts (pair_line a b) page.old page.new }
@@ -26,6 +27,7 @@ fn pair(page: &mut Page, a: u64, b: u64)
 }
 
 // A record's number, its answer and the detail.
+#[tactic(auto, using(text::proofs::Laws::digits_length))]
 pub fn record_line(page: &mut Page, number: u64, answer: u64, detail: u64)
     requires { page.old.at + 63 ≤ length page.old.out.now }
     ensures { Puts (record_line number answer detail) page.old page.new }
@@ -44,6 +46,7 @@ pub fn stop_line(page: &mut Page, number: u64, refusal: u64)
 }
 
 // The counters, in document 01's order.
+#[tactic(auto, using(text::proofs::Laws::digits_length))]
 pub fn end_line(page: &mut Page, errors: u64, delimiters: u64, assembled: u64, fragments: u64)
     requires { page.old.at + 88 ≤ length page.old.out.now }
     ensures { Puts (end_line errors delimiters assembled fragments) page.old page.new }

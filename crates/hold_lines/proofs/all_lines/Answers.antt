@@ -5,11 +5,6 @@ use Rattle.text.proofs.Laws.{puts_puts}
 use Rattle.hold_lines.proofs.Laws.{events_end, cycle_end}
 use Rattle.hold_lines.proofs.all_lines.Goals as goal
 
-pub cycle_line-requires : goal.cycle_line-requires
-cycle_line-requires c =
-    let first = c.event_lines.ensures in
-    omega (arith, events_end _ first, first.long)
-
 pub returns : goal.returns
 returns c =
     let first = c.event_lines.ensures in

@@ -4,12 +4,6 @@ use Rattle.text.proofs.Laws.{puts_puts}
 use Rattle.hold_lines.proofs.Laws.{number_end}
 use Rattle.hold_lines.proofs.cycle_line.Goals as goal
 
-pub octet-requires : goal.octet-requires
-octet-requires c =
-    let first = c.words.ensures in
-    let second = c.number.ensures in
-    omega (arith, first.put.place, first.long, number_end _ second, second.long)
-
 pub returns : goal.returns
 returns c =
     let first = c.words.ensures in

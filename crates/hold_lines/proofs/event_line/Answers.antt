@@ -4,11 +4,6 @@ use Rattle.text.proofs.Laws.{puts_puts}
 use Rattle.hold_lines.proofs.Laws.{number_end, word_end}
 use Rattle.hold_lines.proofs.event_line.Goals as goal
 
-pub word_line-requires : goal.word_line-requires
-word_line-requires c =
-    let first = c.number.ensures in
-    omega (arith, number_end _ first, first.long)
-
 pub returns : goal.returns
 returns c =
     let first = c.number.ensures in

@@ -4,20 +4,6 @@ use Rattle.lines.proofs.Laws.{pair_length}
 use Rattle.text.proofs.Laws.{puts_puts, digits_length}
 use Rattle.lines.proofs.end_line.Goals as goal
 
-pub next_number-requires-2 : goal.next_number-requires-2
-next_number-requires-2 c =
-    let first = c.words.ensures in
-    let second = c.next_number.ensures in
-    omega (arith, digits_length 20 c.args.errors, first.put.place, first.long, second.put.place, second.long)
-
-pub pair-requires : goal.pair-requires
-pair-requires c =
-    let a = c.args in
-    let first = c.words.ensures in
-    let second = c.next_number.ensures in
-    let third = c.next_number-2.ensures in
-    omega (arith, digits_length 20 a.errors, digits_length 20 a.delimiters, first.put.place, first.long, second.put.place, second.long, third.put.place, third.long)
-
 pub returns : goal.returns
 returns c =
     let a = c.args in

@@ -3,18 +3,6 @@ use native.Mathlib.Omega.{arith}
 use Rattle.text.proofs.Laws.{puts_puts, digits_length}
 use Rattle.lines.proofs.pair.Goals as goal
 
-pub next_number-requires-2 : goal.next_number-requires-2
-next_number-requires-2 c =
-    let first = c.next_number.ensures in
-    omega (arith, digits_length 20 c.args.a, first.put.place, first.long)
-
-pub octet-requires : goal.octet-requires
-octet-requires c =
-    let a = c.args in
-    let first = c.next_number.ensures in
-    let second = c.next_number-2.ensures in
-    omega (arith, digits_length 20 a.a, digits_length 20 a.b, first.put.place, first.long, second.put.place, second.long)
-
 pub returns : goal.returns
 returns c =
     let a = c.args in

@@ -4,11 +4,6 @@ use Rattle.lines.proofs.Laws.{pair_length}
 use Rattle.text.proofs.Laws.{puts_puts, digits_length}
 use Rattle.lines.proofs.record_line.Goals as goal
 
-pub pair-requires : goal.pair-requires
-pair-requires c =
-    let first = c.number.ensures in
-    omega (arith, digits_length 20 c.args.number, first.put.place, first.long)
-
 pub returns : goal.returns
 returns c =
     let a = c.args in
