@@ -14,6 +14,7 @@ use programs::is_given;
 use std::env::Env;
 use std::fs;
 use std::io::{IsTerminal, Print, Read};
+use text::Page;
 use windows::front;
 
 // The longest name: what stands behind it until the file is whole has to fit, too.
@@ -60,8 +61,13 @@ fn make_beside<R: Read>(
     requires { length target.now ≤ 4089 }
 {
     let mut name = [0u8; 4096];
-    let behind = text::words(target.as_bytes(), &mut name, 0);
-    let end = text::words(b".part0", &mut name, behind);
+    let mut page = Page {
+        out: &mut name,
+        at: 0,
+    };
+    page.words(target.as_bytes());
+    page.words(b".part0");
+    let end = page.at;
     let Some(output) = names::new_file(rt, &mut name, end - 1) else {
         return Err(Trouble::Unmade);
     };

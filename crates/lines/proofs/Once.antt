@@ -1,4 +1,4 @@
--- No second place and no other octets meet a promise of this crate.
+-- No second place and no other octets meet a promise of this crate: what `Puts` says of a page is `Put` of its memory and place.
 -- Assumes nothing.
 use mathlib.Core.Path.{◌≡◌}
 use mathlib.Core.List.{List}

@@ -5,6 +5,7 @@ use programs::Unwritten;
 use receiver_record::Record;
 use sentences::RefusedRecord;
 use std::io::Print;
+use text::Page;
 use trace::{Cursor, Refusal};
 use windows::{Waiting, Window, part};
 
@@ -41,7 +42,12 @@ impl Listing {
     // Before the first record: the receiver is fresh, and the title waits.
     fn new() -> Listing {
         let mut octets = [0u8; ROOM];
-        let end = lines::title(&mut octets, 0);
+        let mut page = Page {
+            out: &mut octets,
+            at: 0,
+        };
+        lines::title(&mut page);
+        let end = page.at;
         Listing {
             receiver: Record::fresh(),
             assembly: [0; BODY_MOST],
@@ -86,16 +92,18 @@ impl Listing {
         self.text.make_room(LINE, &mut rt.stdout())?;
         let content = part(self.window.rest(), start, end);
         let text = &mut self.text;
-        let listed = listing::list(
+        let mut page = Page {
+            out: &mut text.octets,
+            at: text.end,
+        };
+        self.receiver = listing::list(
+            &mut page,
             self.number,
             content,
             self.receiver,
             &mut self.assembly,
-            &mut text.octets,
-            text.end,
         );
-        self.receiver = listed.after;
-        self.text.end = listed.next;
+        self.text.end = page.at;
         self.number = self.number.wrapping_add(1);
         self.window.pass(end);
         Ok(())
@@ -106,7 +114,12 @@ impl Listing {
         self.text.make_room(LINE, &mut rt.stdout())?;
         let number = self.number;
         let text = &mut self.text;
-        text.end = lines::stop_line(number, why.number() as u64, &mut text.octets, text.end);
+        let mut page = Page {
+            out: &mut text.octets,
+            at: text.end,
+        };
+        lines::stop_line(&mut page, number, why.number() as u64);
+        text.end = page.at;
         self.trouble = Some(Trouble::Refused(RefusedRecord { number, why }));
         Ok(())
     }
@@ -116,14 +129,18 @@ impl Listing {
         self.text.make_room(LINE, &mut rt.stdout())?;
         let counters = self.receiver.counters;
         let text = &mut self.text;
-        text.end = lines::end_line(
+        let mut page = Page {
+            out: &mut text.octets,
+            at: text.end,
+        };
+        lines::end_line(
+            &mut page,
             u64::from(counters.errors),
             u64::from(counters.delimiters),
             u64::from(counters.assembled),
             u64::from(counters.fragments),
-            &mut text.octets,
-            text.end,
         );
+        text.end = page.at;
         self.text.write(&mut rt.stdout())
     }
 

@@ -5,36 +5,22 @@ ghost use Rattle.std.specs.Prelude.{◌+◌, ◌≤◌, length};
 ghost use Rattle.listing.specs.Lists.{Lists};
 
 use receiver_record::Record;
+use text::Page;
 
-// What a record of the trace makes: the receiving record after it, and the place behind its line.
-#[derive(Clone, Copy)]
-pub struct Listed {
-    pub after: Record,
-    pub next: usize,
-}
-
-// One record of the trace, given to the receiver, and its line.
+// One record of the trace, given to the receiver, and its line on the page: the receiving record after it.
 #[tactic(auto, using(crate::proofs::Laws::line_as))]
 pub fn list(
+    page: &mut Page,
     number: u64,
     content: &[u8],
     record: Record,
     buffer: &mut [u8],
-    out: &mut [u8],
-    at: usize,
-) -> Listed
-    requires { at + 63 ≤ length out.old }
-    ensures { Lists number content.now «record» buffer.old out.old at result buffer.new out.new }
+) -> Record
+    requires { page.old.at + 63 ≤ length page.old.out.now }
+    ensures { Lists number content.now «record» buffer.old page.old result buffer.new page.new }
 {
     let got = receive::receive(content, record, buffer);
     let answer = got.answer;
-    let next = lines::record_line(
-        number,
-        answer.number() as u64,
-        answer.detail() as u64,
-        out,
-        at,
-    );
-    let after = got.after;
-    Listed { after, next }
+    lines::record_line(page, number, answer.number() as u64, answer.detail() as u64);
+    got.after
 }

@@ -14,12 +14,22 @@ use Rattle.octets.specs.Laid.{laid}
 use Rattle.octets.proofs.Laid.{laid_laid}
 use Rattle.io.specs.Digits.{hex_digit_ascii, last_digits, IsDigitCount}
 use Rattle.text.specs.Text.{zero_digit, digits_of, Put}
+use Rattle.text.specs.Pages.{Puts}
+use Rattle.text.specs.declared.Page.{Page}
 
 -- a second piece right behind the first
 pub put_put : {p q out out' out'' : List ℕ} {at r s : ℕ} → Put p at out r out' → Put q r out' s out'' → s ≤ length out → Put (p ++ q) at out s out''
 put_put {p} {q} {out} {out'} {out''} {at} {r} {s} a b h = record {
   place = omega (arith, a.place, b.place, length-append p q);
   octets = b.octets ∙ ap (λ (l : List ℕ). laid l r q) a.octets ∙ laid_laid out p q at r a.place (omega (arith, b.place));
+}
+
+-- the same on a page
+pub puts_puts : {p q : List ℕ} {a b c : Page} → Puts p a b → Puts q b c → c.at ≤ length a.out.now → Puts (p ++ q) a c
+puts_puts f g h = record {
+  memory = g.memory ∙ f.memory;
+  long = g.long ∙ f.long;
+  put = put_put f.put g.put h;
 }
 
 -- at most k digits

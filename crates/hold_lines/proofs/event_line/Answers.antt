@@ -1,14 +1,11 @@
 -- `hold_lines::event_line` meets its contract.
 use native.Mathlib.Omega.{arith}
-use Rattle.text.proofs.Laws.{put_put}
+use Rattle.text.proofs.Laws.{puts_puts}
 use Rattle.hold_lines.proofs.Laws.{number_end, word_end}
 use Rattle.hold_lines.proofs.event_line.Goals as goal
 
-pub word_line-requires : goal.word_line-requires
-word_line-requires c = omega (arith, number_end _ c.number-next.ensures)
-
 pub returns : goal.returns
 returns c =
-    let first = c.number-next.ensures in
+    let first = c.number.ensures in
     let second = c.word_line.ensures in
-    put_put first second (omega (arith, number_end _ first, word_end _ second))
+    puts_puts first second (omega (arith, number_end _ first, word_end _ second))

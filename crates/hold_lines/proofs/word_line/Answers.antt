@@ -9,8 +9,8 @@ returns-then-operation-eq-HOLD c =
     let t = c.if-operation-eq-HOLD.true in
     simp tests c.words.ensures
 
-pub returns : goal.returns
+pub returns-else-operation-eq-HOLD : goal.returns-else-operation-eq-HOLD
 unfolding word_line
-returns c =
+returns-else-operation-eq-HOLD c =
     let t = c.if-operation-eq-HOLD.false in
-    simp tests c.words-2.ensures
+    simp tests c.words-else-operation-eq-HOLD.ensures
