@@ -89,18 +89,16 @@ impl Copying {
         let octets = self.window.rest();
         let number = self.number;
         match self.next {
-            Next::FileHeader => match pcap_records::open(octets) {
-                Ok(order) => Ok(Found::FileHeader(order)),
-                Err(why) => Err(Trouble::Capture(RefusedCapture { number: 0, why })),
-            },
-            Next::TraceRecord => match (Cursor { at: 0 }).read(octets) {
-                Ok(record) => Ok(Found::from(record)),
-                Err(why) => Err(Trouble::Trace(RefusedRecord { number, why })),
-            },
-            Next::CaptureRecord(order) => match pcap_records::record_at(order, octets, 0) {
-                Ok(record) => Ok(Found::from(record)),
-                Err(why) => Err(Trouble::Capture(RefusedCapture { number, why })),
-            },
+            Next::FileHeader => pcap_records::open(octets)
+                .map(Found::FileHeader)
+                .map_err(|why| Trouble::Capture(RefusedCapture { number: 0, why })),
+            Next::TraceRecord => Cursor::new()
+                .read(octets)
+                .map(Found::from)
+                .map_err(|why| Trouble::Trace(RefusedRecord { number, why })),
+            Next::CaptureRecord(order) => pcap_records::record_at(order, octets, 0)
+                .map(Found::from)
+                .map_err(|why| Trouble::Capture(RefusedCapture { number, why })),
         }
     }
 

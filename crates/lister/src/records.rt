@@ -64,7 +64,7 @@ impl Listing {
         if self.window.is_short() {
             return Found::Part;
         }
-        match (Cursor { at: 0 }).read(self.window.rest()) {
+        match Cursor::new().read(self.window.rest()) {
             Ok(Some(span)) => Found::Record(span),
             Ok(None) => Found::End,
             Err(why) => self.refused(why),
