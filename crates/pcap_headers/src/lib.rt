@@ -1,4 +1,5 @@
-// The pieces of a capture file and of a trace, as they are written: a file's header, and a record with its header.
+// The pieces of a capture file and of a trace, as they are written: a file's header, and a record with its header. Memory and place stay two
+// parameters, as in octets: the caller has counted the place (docs/DECISIONS.md, 101).
 #![tactic(auto)]
 
 ghost use Rattle.std.specs.Prelude.{◌≡◌, ◌+◌, ◌≤◌, length};

@@ -47,7 +47,7 @@ impl Record {
 fn is_idle(r: Record) -> bool
     ensures { result ≡ idle r }
 {
-    r.length == 0 && r.sent == 0 && r.fragment.0 == 0
+    r.length == 0 && r.sent == 0 && r.fragment == FragmentCount::ZERO
 }
 
 // Whether the fields of a frame in progress are in range.
