@@ -103,7 +103,7 @@ impl Listing {
         self.text.make_room(LINE, &mut rt.stdout())?;
         let number = self.number;
         let text = &mut self.text;
-        text.end = lines::stop_line(number, why.number() as u64, &mut text.octets, text.end);
+        text.end = lines::stop_line(number, u64::from(why.number()), &mut text.octets, text.end);
         self.trouble = Some(Trouble::Refused(RefusedRecord { number, why }));
         Ok(())
     }

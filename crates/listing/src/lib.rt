@@ -30,7 +30,7 @@ pub fn list(
     let answer = got.answer;
     let next = lines::record_line(
         number,
-        answer.number() as u64,
+        u64::from(answer.number()),
         answer.detail() as u64,
         out,
         at,
