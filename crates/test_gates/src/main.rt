@@ -75,12 +75,11 @@ fn lent<T: Row>(space: &mut [T], n: usize, first: u8) -> Result<&mut [T], Stop>
 
 // The FCS of all of the lent memory, its words as octets again.
 fn over_word(register: u32, word: u32) -> u32 {
-    crc::over(register, &fours::split(word))
+    crc::over(register, &word.to_le_bytes())
 }
 
 fn over_long(register: u32, long: u64) -> u32 {
-    let low = over_word(register, (long % 4294967296) as u32);
-    over_word(low, (long / 4294967296) as u32)
+    crc::over(register, &long.to_le_bytes())
 }
 
 fn say_rows<T: Row>(rt: HostRuntime, rows: &[T]) {
