@@ -124,7 +124,8 @@ impl Listing {
         self.text.write(&mut rt.stdout())
     }
 
-    // Lists what stands at the window's front, or reads on; whether more is to come.
+    // Lists what stands at the window's front, or reads on; whether more is to come. A match over an enum: each arm takes other values of the same
+    // struct, so closures would be no plainer.
     fn turn(&mut self, rt: HostRuntime) -> Result<bool, Unwritten> {
         match self.find() {
             Found::Part => {
