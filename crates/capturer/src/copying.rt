@@ -82,6 +82,7 @@ impl Copying {
         }
     }
 
+    // What stands at the window's front. A match over an enum: each arm takes other values of the same struct, so closures would be no plainer.
     fn find(&self) -> Result<Found, Trouble> {
         if self.window.is_short() {
             return Ok(Found::Part);

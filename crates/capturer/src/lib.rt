@@ -35,6 +35,7 @@ fn settle(
 }
 
 // Fills the new file, where its name can be had, and closes it: in a folder in which it could be made, what cannot be opened stands there itself.
+// What is made, from what and under which name goes down as it is: a struct of two borrowed things would be no plainer.
 fn fill<R: Read>(
     rt: HostRuntime,
     made: File,

@@ -115,7 +115,7 @@ impl Listing {
             out: &mut text.octets,
             at: text.end,
         };
-        lines::stop_line(&mut page, number, why.number() as u64);
+        lines::stop_line(&mut page, number, u64::from(why.number()));
         text.end = page.at;
         self.trouble = Some(Trouble::Refused(RefusedRecord { number, why }));
         Ok(())
@@ -141,7 +141,8 @@ impl Listing {
         self.text.write(&mut rt.stdout())
     }
 
-    // Lists what stands at the window's front, or reads on; whether more is to come.
+    // Lists what stands at the window's front, or reads on; whether more is to come. A match over an enum: each arm takes other values of the same
+    // struct, so closures would be no plainer.
     fn turn(&mut self, rt: HostRuntime) -> Result<bool, Unwritten> {
         match self.find() {
             Found::Part => {

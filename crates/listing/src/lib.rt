@@ -21,6 +21,11 @@ pub fn list(
 {
     let got = receive::receive(content, record, buffer);
     let answer = got.answer;
-    lines::record_line(page, number, answer.number() as u64, answer.detail() as u64);
+    lines::record_line(
+        page,
+        number,
+        u64::from(answer.number()),
+        answer.detail() as u64,
+    );
     got.after
 }

@@ -75,12 +75,11 @@ fn lent<T: Row>(space: &mut [T], n: usize, first: u8) -> Result<&mut [T], Stop>
 
 // The FCS of all of the lent memory, its words as octets again.
 fn over_word(register: u32, word: u32) -> u32 {
-    crc::over(register, &fours::split(word))
+    crc::over(register, &word.to_le_bytes())
 }
 
 fn over_long(register: u32, long: u64) -> u32 {
-    let low = over_word(register, (long % 4294967296) as u32);
-    over_word(low, (long / 4294967296) as u32)
+    crc::over(register, &long.to_le_bytes())
 }
 
 fn say_rows<T: Row>(rt: HostRuntime, rows: &[T]) {
@@ -89,10 +88,6 @@ fn say_rows<T: Row>(rt: HostRuntime, rows: &[T]) {
         register = row.over(register);
     }
     say::octets(rt, crc::fcs(register));
-}
-
-fn say_octets(rt: HostRuntime, list: &[u8]) {
-    say::octets(rt, crc::fcs(crc::over(crc::ALL_ONES, list)));
 }
 
 fn say_answer(rt: HostRuntime, answer: Answer) {
@@ -126,7 +121,7 @@ fn write_list(rt: HostRuntime, q: Question) -> Result<(), Stop> {
     let answer = gates::write_list(read::front(&entries, n), out);
     say::text(rt, b"write");
     say_answer(rt, answer);
-    say_octets(rt, out);
+    say::check(rt, out);
     say::line_end(rt)
 }
 

@@ -37,7 +37,7 @@ fn say_delimiter(rt: HostRuntime, d: Delimiter) {
         Delimiter::Respond => say::kind(rt, b" respond", 0),
         Delimiter::Unknown(bits) => {
             say::text(rt, b" unknown");
-            say::number(rt, bits as u64);
+            say::number(rt, u64::from(bits));
         }
     }
 }
@@ -52,7 +52,7 @@ fn say_fragment(rt: HostRuntime, fragment: Option<FragmentCount>) {
 fn octet(rt: HostRuntime, octet: u8) -> Result<(), Stop> {
     say::text(rt, b"octet");
     say::small(rt, octet);
-    say::number(rt, delimiters::distance(octet) as u64);
+    say::number(rt, u64::from(delimiters::distance(octet)));
     say_delimiter(rt, delimiters::delimiter_of(octet));
     say_fragment(rt, delimiters::fragment_of(octet));
     say::line_end(rt)
@@ -102,22 +102,24 @@ fn say_ending(rt: HostRuntime, e: Ending) -> Result<(), Stop> {
         Ending::More(n, register) => {
             say::text(rt, b" more");
             say::number(rt, n as u64);
-            say::word(rt, register as u64);
+            say::word(rt, u64::from(register));
         }
         Ending::Damaged => say::text(rt, b" damaged"),
     }
     say::line_end(rt)
 }
 
-// A register and a run of octets: their check octets, or their ending.
-fn over_octets(rt: HostRuntime, q: Question, check: bool) -> Result<(), Stop> {
+// A register and a run of octets, of which the answer is told: their check octets, or their ending.
+fn over_octets<F: FnOnce(u32, &[u8]) -> Result<(), Stop>>(
+    rt: HostRuntime,
+    q: Question,
+    answer: F,
+) -> Result<(), Stop>
+    requires { F.IsAlwaysCallable answer }
+{
     let mut space = [0u8; 2048];
-    let register = q.word(1);
     let octets = read::octets(rt, &mut space, q.short(5))?;
-    if check {
-        return check_lines(rt, register, octets);
-    }
-    say_ending(rt, endings::judge(register, octets))
+    answer(q.word(1), octets)
 }
 
 // A piece laid into memory.
@@ -149,11 +151,13 @@ const SIZES: [usize; 7] = [0, 7, 2, 2, 27, 7, 7];
 
 fn question(rt: HostRuntime, q: Question) -> Result<(), Stop> {
     match q.octet(0) {
-        1 => over_octets(rt, q, true),
+        1 => over_octets(rt, q, |register, octets| check_lines(rt, register, octets)),
         2 => octet(rt, q.octet(1)),
         3 => count(rt, q.octet(1)),
         4 => cut_asked(rt, q),
-        5 => over_octets(rt, q, false),
+        5 => over_octets(rt, q, |register, octets| {
+            say_ending(rt, endings::judge(register, octets))
+        }),
         _ => lay(rt, q),
     }
 }

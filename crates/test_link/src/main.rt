@@ -11,10 +11,18 @@ use sender_answers::{Refusal, Written};
 use std::process::ExitCode;
 use test_questions::stop::Stop;
 use test_questions::{read, say};
-use test_receivers::{say_check, say_counters};
+use test_receivers::say_counters;
 
-// The state of an entry: the number drawn last, both ends, the body of the frame chosen last, what is counted, the mFrame that the turn wrote
-// (none: no octets).
+// The mFrame that a turn wrote: its octets, whether a preemptable call did, and whether its frame is done.
+#[derive(Clone, Copy)]
+struct Wrote {
+    length: usize,
+    preemptable: bool,
+    done: bool,
+}
+
+// The state of an entry: the number drawn last, both ends, the body of the frame chosen last, what is counted, and what the turn wrote, if
+// anything.
 #[derive(Clone, Copy)]
 struct Link {
     x: u32,
@@ -23,22 +31,20 @@ struct Link {
     seed: u32,
     length: usize,
     tally: Tally,
-    wrote: usize,
-    preemptable: bool,
-    done: bool,
+    wrote: Option<Wrote>,
 }
 
 // What a call wrote, or that it refused.
-fn wrote(l: Link, answer: Result<Written, Refusal>, preemptable: bool) -> Link {
-    match answer {
-        Ok(Written { length, done }) => Link {
-            wrote: length,
-            done,
+fn with_written(l: Link, answer: Result<Written, Refusal>, preemptable: bool) -> Link {
+    let wrote = match answer {
+        Ok(Written { length, done }) => Some(Wrote {
+            length,
             preemptable,
-            ..l
-        },
-        Err(_) => Link { preemptable, ..l },
-    }
+            done,
+        }),
+        Err(_) => None,
+    };
+    Link { wrote, ..l }
 }
 
 fn express(x: u32, out: &mut [u8; 1530]) -> Result<Written, Refusal> {
@@ -83,43 +89,49 @@ fn preemptable(first: Link, out: &mut [u8; 1530]) -> Link {
         sender: sent.after,
         ..l
     };
-    wrote(on, sent.answer, true)
+    with_written(on, sent.answer, true)
 }
 
 // A setting of the sender from a draw: hold or extra.
-fn set(l: Link, hold: bool) -> Link {
+fn set<F: FnOnce(sender_record::Record, u32) -> sender_record::Record>(l: Link, setting: F) -> Link
+    requires { F.IsAlwaysCallable setting }
+{
     let x = chance::step(l.x);
-    let drawn = chance::one_of(x, 4);
-    let sender = if hold {
-        sender_record::Record {
-            hold: drawn == 0,
-            ..l.sender
-        }
-    } else {
-        sender_record::Record {
-            extra: (drawn % 256) as u8,
-            ..l.sender
-        }
-    };
+    let sender = setting(l.sender, chance::one_of(x, 4));
     Link { x, sender, ..l }
+}
+
+fn hold_from(sender: sender_record::Record, drawn: u32) -> sender_record::Record {
+    sender_record::Record {
+        hold: drawn == 0,
+        ..sender
+    }
+}
+
+fn extra_from(sender: sender_record::Record, drawn: u32) -> sender_record::Record {
+    sender_record::Record {
+        extra: (drawn % 256) as u8,
+        ..sender
+    }
 }
 
 // The sender's turn.
 fn send_one(before: Link, out: &mut [u8; 1530]) -> Link {
     let x = chance::step(before.x);
-    let mut l = before;
-    l.x = x;
-    l.wrote = 0;
+    let l = Link {
+        x,
+        wrote: None,
+        ..before
+    };
     match chance::one_of(x, 16) {
         0 => {
             let drawn = chance::step(x);
-            l.x = drawn;
-            wrote(l, express(drawn, out), false)
+            with_written(Link { x: drawn, ..l }, express(drawn, out), false)
         }
-        1 => wrote(l, single::verify(out), false),
-        2 => wrote(l, single::respond(out), false),
-        3 => set(l, true),
-        4 => set(l, false),
+        1 => with_written(l, single::verify(out), false),
+        2 => with_written(l, single::respond(out), false),
+        3 => set(l, hold_from),
+        4 => set(l, extra_from),
         _ => preemptable(l, out),
     }
 }
@@ -127,18 +139,17 @@ fn send_one(before: Link, out: &mut [u8; 1530]) -> Link {
 // An mFrame that arrives: the receiver's answer.
 fn arrive(rt: HostRuntime, l: Link, mframe: &[u8], buffer: &mut [u8; 1518]) -> Result<Link, Stop> {
     let got = receive::receive(mframe, l.receiver, buffer);
-    let number = got.answer.number();
-    say::first(rt, u64::from(number));
+    say::first(rt, u64::from(got.answer.number()));
     say::number(rt, got.answer.detail() as u64);
     match got.answer {
-        Answer::Express(_) => say_check(rt, express_body::express_body(mframe)),
-        Answer::Delivered(n) => say_check(rt, read::front(buffer, n)),
+        Answer::Express(_) => say::check(rt, express_body::express_body(mframe)),
+        Answer::Delivered(n) => say::check(rt, read::front(buffer, n)),
         _ => {}
     }
     say::line_end(rt)?;
     Ok(Link {
         receiver: got.after,
-        tally: l.tally.answered(number),
+        tally: l.tally.answered(got.answer),
         ..l
     })
 }
@@ -161,11 +172,17 @@ fn shortened(mframe: &[u8], dropped: u32) -> &[u8] {
 }
 
 // The fate of an mFrame: lost, or how many of its leading octets 55 the link drops.
-fn fate(rt: HostRuntime, l: Link, out: &[u8], buffer: &mut [u8; 1518]) -> Result<Link, Stop> {
+fn fate(
+    rt: HostRuntime,
+    l: Link,
+    wrote: Wrote,
+    out: &[u8],
+    buffer: &mut [u8; 1518],
+) -> Result<Link, Stop> {
     let x = chance::step(l.x);
-    let lost = is_lost(x, l.preemptable, l.tally.run);
-    let tally = if l.preemptable {
-        l.tally.written(l.done, lost)
+    let lost = is_lost(x, wrote.preemptable, l.tally.run);
+    let tally = if wrote.preemptable {
+        l.tally.written(wrote.done, lost)
     } else {
         l.tally
     };
@@ -176,7 +193,7 @@ fn fate(rt: HostRuntime, l: Link, out: &[u8], buffer: &mut [u8; 1518]) -> Result
     arrive(
         rt,
         Link { x: y, tally, ..l },
-        shortened(read::front(out, l.wrote), chance::one_of(y, 9)),
+        shortened(read::front(out, wrote.length), chance::one_of(y, 9)),
         buffer,
     )
 }
@@ -195,10 +212,10 @@ fn one_turn(
     buffer: &mut [u8; 1518],
 ) -> Result<Link, Stop> {
     let l = send_one(before, out);
-    if l.wrote == 0 {
-        return Ok(l);
+    match l.wrote {
+        Some(wrote) => fate(rt, l, wrote, out, buffer),
+        None => Ok(l),
     }
-    fate(rt, l, out, buffer)
 }
 
 // All turns of an entry.
@@ -212,9 +229,7 @@ fn play(rt: HostRuntime, seed: u32, turns: u32) -> Result<(), Stop> {
         seed: 0,
         length: 0,
         tally: Tally::NONE,
-        wrote: 0,
-        preemptable: false,
-        done: false,
+        wrote: None,
     };
     for _ in 0..turns {
         l = one_turn(rt, l, &mut out, &mut buffer)?;

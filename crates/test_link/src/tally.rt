@@ -1,4 +1,5 @@
 // What is counted on the link. The counters of a run this long fit; they go round like the port's own where they would not.
+use receiver_answers::Answer;
 use test_questions::say;
 
 #[derive(Clone, Copy)]
@@ -63,10 +64,10 @@ impl Tally {
     }
 
     // The receiver answers.
-    pub fn answered(self, number: u32) -> Tally {
+    pub fn answered(self, answer: Answer) -> Tally {
         Tally {
-            express: plus(self.express, number == 0),
-            delivered: plus(self.delivered, number == 1),
+            express: plus(self.express, matches!(answer, Answer::Express(_))),
+            delivered: plus(self.delivered, matches!(answer, Answer::Delivered(_))),
             ..self
         }
     }

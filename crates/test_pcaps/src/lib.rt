@@ -23,6 +23,6 @@ pub fn ask<F: FnOnce(&[u8], &mut [u8]) -> Result<usize, Error>>(
     say::text(rt, name);
     say::number(rt, u64::from(pcap_lists::number(answer)));
     say::number(rt, pcap_lists::value(answer) as u64);
-    say::octets(rt, crc::fcs(crc::over(crc::ALL_ONES, lent)));
+    say::check(rt, lent);
     say::line_end(rt)
 }

@@ -3,8 +3,9 @@ ghost use Rattle.std.specs.Prelude.{◌+◌, ◌≤◌};
 
 use crate::stop::Stop;
 use std::io::Read;
+pub use windows::front;
 
-// The octets of a question's numbers, its kind in front.
+// The octets of a question's numbers, its kind in front: an octet of the stored files (tests/reference/README.md), which each program matches once.
 #[derive(Clone, Copy)]
 pub struct Question {
     octets: [u8; 32],
@@ -86,11 +87,6 @@ pub fn lent(space: &mut [u8], n: usize, first: u8) -> Result<&mut [u8], Stop> {
         x = x.wrapping_add(1);
     }
     space.get_mut(..n).ok_or(Stop::Broken)
-}
-
-// The first n, or all where there are fewer.
-pub fn front<T>(space: &[T], n: usize) -> &[T] {
-    space.get(..n).unwrap_or(space)
 }
 
 // What stands behind the first n, or none where there are fewer.

@@ -36,6 +36,11 @@ pub fn octets(rt: HostRuntime, x: [u8; 4]) {
     hex_octets(rt, &x);
 }
 
+// The FCS of octets, which stands for all of them.
+pub fn check(rt: HostRuntime, x: &[u8]) {
+    octets(rt, crc::fcs(crc::over(crc::ALL_ONES, x)));
+}
+
 // Any number of octets, each in two digits.
 pub fn hex_octets(rt: HostRuntime, x: &[u8]) {
     for octet in x {

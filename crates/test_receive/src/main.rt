@@ -8,14 +8,13 @@ use std::process::ExitCode;
 use test_questions::read::Question;
 use test_questions::stop::Stop;
 use test_questions::{read, say};
-use test_receivers::{record, say_check, say_record};
+use test_receivers::{Lent, record, say_record};
 
-// What is kept from question to question: the record, and lent memory, of which so many octets are the buffer.
+// What is kept from question to question: the record and the buffer.
 #[derive(Clone, Copy)]
 struct Kept {
     record: Record,
-    space: [u8; 2048],
-    room: usize,
+    buffer: Lent,
 }
 
 fn say_answer(rt: HostRuntime, answer: Answer) {
@@ -34,18 +33,18 @@ fn say_body(rt: HostRuntime, mframe: &[u8]) {
     let body = express_body::express_body(mframe);
     say::number(rt, u64::from(start_of_body(mframe)));
     say::number(rt, body.len() as u64);
-    say_check(rt, body);
+    say::check(rt, body);
 }
 
 fn mframe(rt: HostRuntime, kept: &mut Kept, q: Question) -> Result<(), Stop> {
     let mut octets = [0u8; 2048];
     let mframe = read::octets(rt, &mut octets, q.short(1))?;
-    let buffer = read::front_mut(&mut kept.space, kept.room);
+    let buffer = kept.buffer.octets();
     let got = receive::receive(mframe, kept.record, buffer);
     let after = got.after;
     say_answer(rt, got.answer);
     say_record(rt, after);
-    say_check(rt, buffer);
+    say::check(rt, buffer);
     say_body(rt, mframe);
     kept.record = after;
     say::line_end(rt)
@@ -57,7 +56,7 @@ const SIZES: [usize; 4] = [0, 32, 4, 3];
 fn question(rt: HostRuntime, kept: &mut Kept, q: Question) -> Result<(), Stop> {
     match q.octet(0) {
         1 => kept.record = record(q),
-        2 => kept.room = read::lent(&mut kept.space, q.short(1), q.octet(3))?.len(),
+        2 => kept.buffer.lend(q)?,
         _ => mframe(rt, kept, q)?,
     }
     Ok(())
@@ -66,8 +65,7 @@ fn question(rt: HostRuntime, kept: &mut Kept, q: Question) -> Result<(), Stop> {
 fn main(rt: HostRuntime) -> ExitCode {
     let mut kept = Kept {
         record: Record::fresh(),
-        space: [0; 2048],
-        room: 0,
+        buffer: Lent::NONE,
     };
     test_questions::run(rt, "test_receive", &SIZES, |q| question(rt, &mut kept, q))
 }

@@ -1,11 +1,37 @@
-// What the programs that run stored questions on the two receivers share: a receiving record read from a question, and what is said of one.
+// What the programs that run stored questions on the two receivers share: a receiving record read from a question, memory lent as one says, and what
+// is said of them.
 #![tactic(auto)]
 
 use codes::{FragmentCount, FrameCount};
 use counters::Counters;
 use receiver_record::Record;
 use test_questions::read::Question;
-use test_questions::say;
+use test_questions::stop::Stop;
+use test_questions::{read, say};
+
+// Lent memory: the first octets of a space, so many.
+#[derive(Clone, Copy)]
+pub struct Lent {
+    space: [u8; 2048],
+    room: usize,
+}
+
+impl Lent {
+    pub const NONE: Lent = Lent {
+        space: [0; 2048],
+        room: 0,
+    };
+
+    pub fn octets(&mut self) -> &mut [u8] {
+        let room = self.room;
+        read::front_mut(&mut self.space, room)
+    }
+
+    pub fn lend(&mut self, q: Question) -> Result<(), Stop> {
+        self.room = read::lent(&mut self.space, q.short(1), q.octet(3))?.len();
+        Ok(())
+    }
+}
 
 // The record whose fields a question gives.
 pub fn record(q: Question) -> Record {
@@ -41,9 +67,4 @@ pub fn say_counters(rt: HostRuntime, c: Counters) {
     for count in [c.errors, c.delimiters, c.assembled, c.fragments] {
         say::number(rt, u64::from(count));
     }
-}
-
-// The FCS of octets, which stands for all of them.
-pub fn say_check(rt: HostRuntime, octets: &[u8]) {
-    say::octets(rt, crc::fcs(crc::over(crc::ALL_ONES, octets)));
 }

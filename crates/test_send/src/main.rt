@@ -27,10 +27,10 @@ fn say_answer(rt: HostRuntime, answer: Result<Written, Refusal>, out: &[u8]) {
         }
         Err(refusal) => {
             say::text(rt, b" refused");
-            say::number(rt, refusal.number() as u64);
+            say::number(rt, u64::from(refusal.number()));
         }
     }
-    say::octets(rt, crc::fcs(crc::over(crc::ALL_ONES, out)));
+    say::check(rt, out);
 }
 
 fn say_record(rt: HostRuntime, r: Record) {
@@ -64,13 +64,18 @@ fn express(rt: HostRuntime, q: Question) -> Result<(), Stop> {
 }
 
 // A call that is given nothing but memory: verify or respond.
-fn order(rt: HostRuntime, q: Question, verify: bool) -> Result<(), Stop> {
+fn order<F: FnOnce(&mut [u8]) -> Result<Written, Refusal>>(
+    rt: HostRuntime,
+    q: Question,
+    name: &[u8],
+    call: F,
+) -> Result<(), Stop>
+    requires { F.IsAlwaysCallable call }
+{
     let mut space = [0u8; 2048];
     let out = read::lent(&mut space, q.short(1), q.octet(3))?;
-    if verify {
-        return answered(rt, b"verify", single::verify(out), out);
-    }
-    answered(rt, b"respond", single::respond(out), out)
+    let answer = call(out);
+    answered(rt, name, answer, out)
 }
 
 fn record(q: Question) -> Record {
@@ -113,8 +118,8 @@ const SIZES: [usize; 8] = [0, 6, 4, 4, 22, 3, 13, 4];
 fn question(rt: HostRuntime, kept: &mut Kept, q: Question) -> Result<(), Stop> {
     match q.octet(0) {
         1 => express(rt, q)?,
-        2 => order(rt, q, true)?,
-        3 => order(rt, q, false)?,
+        2 => order(rt, q, b"verify", single::verify)?,
+        3 => order(rt, q, b"respond", single::respond)?,
         4 => kept.record = record(q),
         5 => kept.given = read::octets(rt, &mut kept.space, q.short(1))?.len(),
         6 => preemptable(rt, kept, q)?,

@@ -8,31 +8,7 @@ use stream::{Refusal, Reply, State};
 use test_questions::read::Question;
 use test_questions::stop::Stop;
 use test_questions::{read, say};
-use test_receivers::{record, say_check, say_record};
-
-// Lent memory: the first octets of a space, so many.
-#[derive(Clone, Copy)]
-struct Lent {
-    space: [u8; 2048],
-    room: usize,
-}
-
-impl Lent {
-    const NONE: Lent = Lent {
-        space: [0; 2048],
-        room: 0,
-    };
-
-    fn octets(&mut self) -> &mut [u8] {
-        let room = self.room;
-        read::front_mut(&mut self.space, room)
-    }
-
-    fn lend(&mut self, q: Question) -> Result<(), Stop> {
-        self.room = read::lent(&mut self.space, q.short(1), q.octet(3))?.len();
-        Ok(())
-    }
-}
+use test_receivers::{Lent, record, say_record};
 
 // What is kept from question to question: the state, the record, the area and the buffer.
 #[derive(Clone, Copy)]
@@ -105,7 +81,7 @@ fn octets(rt: HostRuntime, kept: &mut Kept, q: Question) -> Result<(), Stop> {
     say::text(rt, b"octets");
     say_tally(rt, tally);
     say_state(rt, kept.state);
-    say_check(rt, kept.area.octets());
+    say::check(rt, kept.area.octets());
     say::line_end(rt)
 }
 
@@ -130,8 +106,8 @@ fn end(rt: HostRuntime, kept: &mut Kept) -> Result<(), Stop> {
     say_reply(rt, reply);
     say_state(rt, kept.state);
     say_record(rt, kept.record);
-    say_check(rt, kept.area.octets());
-    say_check(rt, kept.buffer.octets());
+    say::check(rt, kept.area.octets());
+    say::check(rt, kept.buffer.octets());
     say::line_end(rt)
 }
 

@@ -13,7 +13,7 @@ use std::marker::Model;
 // trace or of a capture, and a capture's header, read as in the whole input (the theorems of captures, Window).
 pub const LONGEST: usize = 1616;
 
-// The first n, or all where there are fewer.
+// The first n, or all where there are fewer. By a test and not by `get`, which the edit `more_than_asked_for` names.
 pub fn front<T>(s: &[T], n: usize) -> &[T]
     ensures { (length result.now ≤ n) × (length result.now ≤ length s.now) }
 {
@@ -23,7 +23,8 @@ pub fn front<T>(s: &[T], n: usize) -> &[T]
     s
 }
 
-// The octets from one place up to another, or none where there is no such part.
+// The octets from one place up to another, or none where there is no such part. By tests, which their edits name (`part_ends_before_it_begins`,
+// `part_ends_behind_the_slice`).
 pub fn part(s: &[u8], from: usize, to: usize) -> &[u8]
     ensures { length result.now ≤ length s.now }
 {
@@ -118,7 +119,7 @@ impl<const N: usize> Window<N> {
     }
 }
 
-// What waits to be written: the first octets of its memory, up to a place.
+// What waits to be written: the first octets of its memory, up to a place. That place stands beside the memory: no heap.
 #[derive(Drop)]
 pub struct Waiting<const N: usize> {
     pub octets: [u8; N],
