@@ -1,5 +1,6 @@
 #!/usr/bin/env python3
-"""Counts the places of docs/DESIGN-PASS.md, points 1 to 8, in what stands in crates/*/src, and lists them: tools/places.py [POINT ..].
+"""Counts the places of docs/DESIGN-PASS.md, points 1 to 8, in what stands in crates/*/src, and lists them: tools/places.py [--in FOLDER] [POINT ..],
+of this checkout or of one in FOLDER.
 
 It finds by form alone what may be an old one; which of these are, and why one stays, is read and told on that page.
 """
@@ -9,8 +10,8 @@ import sys
 from collections import defaultdict
 
 ROOT = pathlib.Path(__file__).resolve().parent.parent
-HEAD = re.compile(r"^\s*(?:pub(?:\(\w+\))? )?(?:extern \"C\" )?fn (\w+)", re.M)
-TYPE = re.compile(r"^\s*(?:pub(?:\(\w+\))? )?(enum|struct) (\w+)[^{;(]*\{", re.M)
+HEAD = re.compile(r"^[ \t]*(?:pub(?:\(\w+\))? )?(?:extern \"C\" )?fn (\w+)", re.M)
+TYPE = re.compile(r"^[ \t]*(?:pub(?:\(\w+\))? )?(enum|struct) (\w+)[^{;(]*\{", re.M)
 
 
 def sources():
@@ -88,7 +89,7 @@ def point_1(path, text):
             if flags:
                 yield line_of(text, found.start()), f"struct {name}: flag {', '.join(flags)}"
     for name, line, _, _, body in functions(text):
-        if re.search(r"\breturn (?:1[0-9]|[3-7][0-9]);", body) or re.search(r"(?:^|[\n;}])\s*(?:1[0-9]|[3-7][0-9])\s*$", body):
+        if re.search(r"\{ (?:1[0-9]|[3-7][0-9]) \} else", body) or re.search(r"\breturn (?:1[0-9]|[3-7][0-9]);", body) or re.search(r"(?:^|[\n;}])\s*(?:1[0-9]|[3-7][0-9])\s*$", body):
             yield line, f"fn {name}: a refusal's number"
         if re.match(r"(is_known|is_event|\w+_fits)$", name):
             yield line, f"fn {name}: a test before a conversion"
@@ -116,7 +117,7 @@ def point_2(all_sources):
             continue
         for name, line, parameters, _, body in functions(text):
             form = shape(body, parameters)
-            if len(form.split()) >= 8:
+            if len(form.split()) >= 4:
                 groups[form].append(f"{path}:{line} {name}")
     for members in groups.values():
         if len(members) > 1:
@@ -124,7 +125,7 @@ def point_2(all_sources):
 
 
 def point_3(path, text):
-    for found in re.finditer(r"\bwhile\b|\bfor \w+ in 0\.\.\w*", text):
+    for found in re.finditer(r"^[ \t]*(?:while|loop)\b|\bfor \w+ in [\w()]+\.\.=?\w*", text, re.M):
         if "u32::MAX" in text[found.start():found.end() + 12] or "u64::MAX" in text[found.start():found.end() + 12]:
             continue
         yield line_of(text, found.start()), " ".join(text[found.start():text.index("\n", found.start())].split())
@@ -188,7 +189,7 @@ def point_6(path, text):
 
 
 def point_7(path, text):
-    for found in re.finditer(r"\bmatch (next|found|made|self\.next)\b", text):
+    for found in re.finditer(r"\bmatch (next|found|made|self\.next|q\.octet\(0\))", text):
         yield line_of(text, found.start()), f"match {found.group(1)}"
 
 
@@ -220,4 +221,8 @@ def main(points):
         print(f"point 8: {sum(n for _, n in found)} lines in {len(found)} files of answers and invariants")
 
 
-main(sys.argv[1:] or list("12345678"))
+words = sys.argv[1:]
+if words[:1] == ["--in"]:
+    ROOT = pathlib.Path(words[1]).resolve()
+    words = words[2:]
+main(words or list("12345678"))

@@ -33,18 +33,15 @@ enum Found {
     Part,
     // The header of a capture whose fields stand in this order.
     FileHeader(Order),
-    // A good record: where its content begins and ends.
-    Record { start: usize, end: usize },
+    // A good record, and where it lies.
+    Record(Span),
     End,
 }
 
 impl From<Option<Span>> for Found {
     fn from(record: Option<Span>) -> Found {
         match record {
-            Some(span) => Found::Record {
-                start: span.start,
-                end: span.next,
-            },
+            Some(span) => Found::Record(span),
             None => Found::End,
         }
     }
@@ -92,26 +89,24 @@ impl Copying {
         let octets = self.window.rest();
         let number = self.number;
         match self.next {
-            Next::FileHeader => match pcap_records::open(octets) {
-                Ok(order) => Ok(Found::FileHeader(order)),
-                Err(why) => Err(Trouble::Capture(RefusedCapture { number: 0, why })),
-            },
-            Next::TraceRecord => match (Cursor { at: 0 }).read(octets) {
-                Ok(record) => Ok(Found::from(record)),
-                Err(why) => Err(Trouble::Trace(RefusedRecord { number, why })),
-            },
-            Next::CaptureRecord(order) => match pcap_records::record_at(order, octets, 0) {
-                Ok(record) => Ok(Found::from(record)),
-                Err(why) => Err(Trouble::Capture(RefusedCapture { number, why })),
-            },
+            Next::FileHeader => pcap_records::open(octets)
+                .map(Found::FileHeader)
+                .map_err(|why| Trouble::Capture(RefusedCapture { number: 0, why })),
+            Next::TraceRecord => Cursor::new()
+                .read(octets)
+                .map(Found::from)
+                .map_err(|why| Trouble::Trace(RefusedRecord { number, why })),
+            Next::CaptureRecord(order) => pcap_records::record_at(order, octets, 0)
+                .map(Found::from)
+                .map_err(|why| Trouble::Capture(RefusedCapture { number, why })),
         }
     }
 
     // A record of the file that is made, behind what waits.
-    fn put(&mut self, start: usize, end: usize)
+    fn put(&mut self, span: Span)
         requires { self.old.out.end + 1616 ≤ 65536 }
     {
-        let content = front(part(self.window.rest(), start, end), LIMIT);
+        let content = front(part(self.window.rest(), span.start, span.next), LIMIT);
         let out = &mut self.out;
         let at = out.end;
         let in_capture = at + pcap_records::HEADER + content.len();
@@ -138,16 +133,11 @@ impl Copying {
     }
 
     // A good record, whose content lies here in the window.
-    fn copy_record(
-        &mut self,
-        output: &mut fs::File,
-        start: usize,
-        end: usize,
-    ) -> Result<(), Trouble> {
+    fn copy_record(&mut self, output: &mut fs::File, span: Span) -> Result<(), Trouble> {
         self.out.make_room(LONGEST, output)?;
-        self.put(start, end);
+        self.put(span);
         self.number = self.number.wrapping_add(1);
-        self.window.pass(end);
+        self.window.pass(span.next);
         Ok(())
     }
 
@@ -166,7 +156,7 @@ impl Copying {
                 self.next = Next::CaptureRecord(order);
                 self.window.pass(FILE_HEADER);
             }
-            Found::Record { start, end } => self.copy_record(output, start, end)?,
+            Found::Record(span) => self.copy_record(output, span)?,
             Found::End => {
                 self.finish(output)?;
                 return Ok(false);

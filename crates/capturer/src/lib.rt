@@ -27,10 +27,7 @@ fn settle(
     part: &str,
     target: &str,
 ) -> Result<(), Trouble> {
-    let named = match made {
-        Ok(()) => fs::rename(&rt, part, target).map_err(|_| Trouble::Unnamed),
-        Err(why) => Err(why),
-    };
+    let named = made.and_then(|()| fs::rename(&rt, part, target).map_err(|_| Trouble::Unnamed));
     if named.is_err() {
         let _ = fs::remove_file(&rt, part);
     }

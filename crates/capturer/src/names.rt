@@ -13,10 +13,7 @@ pub(crate) fn text_of(name: &[u8]) -> &str {
 
 // Whether a link stands at a name.
 fn is_link(rt: HostRuntime, name: &str) -> bool {
-    match fs::symlink_metadata(&rt, name) {
-        Ok(found) => found.is_symlink(),
-        Err(_) => false,
-    }
+    fs::symlink_metadata(&rt, name).is_ok_and(|found| found.is_symlink())
 }
 
 // Whether an open file is a regular one: it can be flushed to a disk, which is so of a disk itself as well, and it can grow, which is not.

@@ -27,7 +27,15 @@ pub fn event_at(n: u32, wait: u32) -> Option<Event>
     }
 }
 
-// The number that is returned.
+// The event that a number is, and of a number that is none the failure of the link: it stands for what a call that could not fail promised.
+#[tactic(auto, unfolding(crate::specs::Events::is_event, crate::specs::Events::event_of))]
+pub fn event_of(n: u32, wait: u32) -> Event
+    ensures { result ≡ event_of n wait }
+{
+    event_at(n, wait).unwrap_or(Event::LinkFailed)
+}
+
+// The number that is returned. sent_words and stream_words have this line too: a generic one would need a trait of all refusals with its law.
 pub fn number_of(answer: Answer) -> u32
     ensures { result ≡ (said answer).number }
 {

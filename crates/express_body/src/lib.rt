@@ -29,7 +29,7 @@ pub struct Part {
 }
 
 impl Part {
-    // The empty part at the front.
+    // The empty part at the front, and no Option: document 01 hands it back, and `part_in` says so.
     const NONE: Part = Part {
         start: 0,
         length: 0,

@@ -28,7 +28,7 @@ impl Fault {
         }
     }
 
-    // The bits of an unknown delimiter, else 0.
+    // The bits of an unknown delimiter, else 0. An arm for each case, so that each can be wrong alone.
     pub fn detail(self) -> usize
         ensures { result ≡ fault_detail self }
     {

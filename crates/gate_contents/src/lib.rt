@@ -32,8 +32,9 @@ pub fn put_octets(entries: &[[u32; 3]], list: &mut [u8])
     requires { (of_entries entries.now ≡ good (length entries.now)) × (length entries.now * size ≤ length list.old) }
     ensures { list.new ≡ over (octets_of_all entries.now) list.old }
 {
-    for (i, entry) in entries.iter().enumerate() {
-        let octets = gate_entries::octets_of(*entry);
-        put_at(octets, list, i * SIZE);
+    // Counted in a u32: counted in a usize, which has 64 bits on the board too, a list that is written misses its goal.
+    for i in 0..entries.len() as u32 {
+        let octets = gate_entries::octets_of(entries[i as usize]);
+        put_at(octets, list, i as usize * SIZE);
     }
 }

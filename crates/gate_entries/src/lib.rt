@@ -69,7 +69,7 @@ pub fn judge(list: &[u8], at: usize) -> Result<(), Refusal>
     Ok(())
 }
 
-// Operation, gates and interval of the entry at a place of a list.
+// Operation, gates and interval of the entry at a place of a list. A row of words and no struct with an enum: C lends it so (include/seatport.h).
 #[tactic(auto, unfolding(crate::specs::Entries::entry_at))]
 pub fn entry_at(list: &[u8], at: usize) -> [u32; 3]
     requires { at + 7 ≤ length list.now }

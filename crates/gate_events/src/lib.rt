@@ -33,7 +33,7 @@ fn wide(interval: u32) -> u64
     u64::from(interval)
 }
 
-// What a list comes to.
+// What a list comes to. By places, as all that goes through a list: an entry is read at its place.
 pub fn totals(list: Accepted<'_>) -> Total
     ensures events { result.events ≡ length (events_from 0 (entries_from list.entry.entries list.entry.octets.now 0)) }
     ensures cycle { result.cycle ≡ sum_of (entries_from list.entry.entries list.entry.octets.now 0) }

@@ -79,10 +79,10 @@ pub fn of_entries(entries: &[[u32; 3]]) -> Answer
     ensures { said result ≡ of_entries entries.now }
 {
     for fitted in 0..=MOST {
-        let Some(entry) = entries.get(fitted as usize) else {
+        if entries.len() <= fitted as usize {
             return Ok(fitted);
-        };
-        if !gate_entries::fits(*entry) {
+        }
+        if !gate_entries::fits(entries[fitted as usize]) {
             return Err(Error::Refused {
                 why: Refusal::Operation,
                 entry: fitted + 1,

@@ -1,3 +1,4 @@
+pub mod Counted
 pub mod Heads
 pub mod Laws
 pub mod Once

@@ -29,7 +29,7 @@ fn sized(kind: Kind, place: usize, length: usize) -> Result<Head, Fault>
     Ok(Head { kind, place })
 }
 
-// A continuation, with its fragment code at place code.
+// A continuation, with its fragment code at place code, which is read by a test and an index, as is the delimiter (docs/DECISIONS.md, 100).
 fn fragmented(frame: FrameCount, code: usize, mframe: &[u8]) -> Result<Head, Fault>
     ensures { reading result ≡ fragmented_of frame code mframe.now }
 {

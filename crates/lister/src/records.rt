@@ -8,7 +8,7 @@ use receiver_record::Record;
 use sentences::RefusedRecord;
 use std::io::Print;
 use text::Page;
-use trace::{Cursor, Refusal};
+use trace::{Cursor, Refusal, Span};
 use windows::{Waiting, Window, part};
 
 // The longest line.
@@ -34,8 +34,8 @@ pub(crate) struct Listing {
 enum Found {
     // Too little to tell.
     Part,
-    // A good record: where its content begins and ends.
-    Record { start: usize, end: usize },
+    // A good record, and where it lies.
+    Record(Span),
     Refused(Refusal),
     End,
 }
@@ -83,11 +83,8 @@ impl Listing {
         if self.window.is_short() {
             return Found::Part;
         }
-        match (Cursor { at: 0 }).read(self.window.rest()) {
-            Ok(Some(span)) => Found::Record {
-                start: span.start,
-                end: span.next,
-            },
+        match Cursor::new().read(self.window.rest()) {
+            Ok(Some(span)) => Found::Record(span),
             Ok(None) => Found::End,
             Err(why) => self.refused(why),
         }
@@ -101,9 +98,9 @@ impl Listing {
     }
 
     // A good record, whose content lies here in the window: given to the receiver, and its line.
-    fn list_record(&mut self, rt: HostRuntime, start: usize, end: usize) -> Result<(), Unwritten> {
+    fn list_record(&mut self, rt: HostRuntime, span: Span) -> Result<(), Unwritten> {
         self.text.make_room(LINE, &mut rt.stdout())?;
-        let content = part(self.window.rest(), start, end);
+        let content = part(self.window.rest(), span.start, span.next);
         let mut page = behind(&mut self.text);
         self.receiver = listing::list(
             &mut page,
@@ -114,7 +111,7 @@ impl Listing {
         );
         self.text.end = page.at;
         self.number = self.number.wrapping_add(1);
-        self.window.pass(end);
+        self.window.pass(span.next);
         Ok(())
     }
 
@@ -152,8 +149,8 @@ impl Listing {
                 self.read_on(rt);
                 Ok(true)
             }
-            Found::Record { start, end } => {
-                self.list_record(rt, start, end)?;
+            Found::Record(span) => {
+                self.list_record(rt, span)?;
                 Ok(true)
             }
             Found::Refused(why) => {

@@ -24,7 +24,7 @@ fn rest(src: &[u8], out: &mut [u8], from: usize)
     }
 }
 
-// All of src, from the front of out. The count of turns is a u32, since a machine of 32 bits counts it in one register.
+// All of src, from the front of out. The count of turns is a u32, since a machine of 32 bits counts it in one register; both slices move on together.
 #[tactic(auto, using(crate::proofs::Copy::eight_turn))]
 fn front(src: &[u8], out: &mut [u8])
     requires { length src.now ≤ length out.old }

@@ -9,8 +9,8 @@ use lib.Seq.{length-take-le}
 use Rattle.octets.specs.Laid.{laid}
 use Rattle.octets.proofs.Laid.{laid_laid, laid_none}
 use Rattle.trace.specs.Trace.{Said, limit, found, ended, refused}
-use Rattle.trace_layout.specs.Layout.{Reading, Listing, record_of, trace_of, rest_from}
-use Rattle.trace_layout.proofs.Rest.{rest_found, rest_ended, rest_refused}
+use Rattle.trace_layout.specs.Layout.{Headed, Listing, record_of, trace_of, rest_from}
+use Rattle.trace_layout.proofs.Rest.{reading_of, rest_found, rest_ended, rest_refused}
 use Rattle.pcap_headers.specs.Headers.{capture_record, capture_records}
 use Rattle.pcap_contents.specs.Written.{written_of}
 
@@ -33,7 +33,7 @@ module _ {W : Type 0} (w : W) where
   pub traced_room : (cs : List (List ℕ)) (n : ℕ) → length (trace_of cs) ≤ n → 0 + length (written_of (λ _. record_of) (λ v _. v) w cs) ≤ n
   traced_room cs n h = let e = ap length (traced_records cs) in omega arith
 
-module _ (read : ℕ → Said) (s : List ℕ) (y : Reading read s) {W : Type 0} (one : W → List ℕ → List ℕ) (onward : W → List ℕ → W) where
+module _ (read : ℕ → Said) (s : List ℕ) (y : Headed read s) {W : Type 0} (one : W → List ℕ → List ℕ) (onward : W → List ℕ → W) where
   -- what is to be written of the contents from a place on
   abbrev pub left_from : W → ℕ → List ℕ
   left_from w from = written_of one onward w (rest_from read s from).contents
@@ -41,11 +41,11 @@ module _ (read : ℕ → Said) (s : List ℕ) (y : Reading read s) {W : Type 0} 
   -- where no record is found, nothing is left
   pub ends : (w : W) (xs : List ℕ) (from at : ℕ) → read from ≡ ended → laid xs at (left_from w from) ≡ xs
   unfolding written_of
-  ends w xs from at e = ap (λ (l : Listing). laid xs at (written_of one onward w l.contents)) (rest_ended read s y from e) ∙ laid_none xs at
+  ends w xs from at e = ap (λ (l : Listing). laid xs at (written_of one onward w l.contents)) (rest_ended read s (reading_of y) from e) ∙ laid_none xs at
 
   pub stops : (w : W) (xs : List ℕ) (from at q : ℕ) → read from ≡ refused q → laid xs at (left_from w from) ≡ xs
   unfolding written_of
-  stops w xs from at q e = ap (λ (l : Listing). laid xs at (written_of one onward w l.contents)) (rest_refused read s y from q e) ∙ laid_none xs at
+  stops w xs from at q e = ap (λ (l : Listing). laid xs at (written_of one onward w l.contents)) (rest_refused read s (reading_of y) from q e) ∙ laid_none xs at
 
   -- a record that is found
   module _ (from place n next : ℕ) (e : read from ≡ found place n next) where
@@ -68,7 +68,7 @@ module _ (read : ℕ → Said) (s : List ℕ) (y : Reading read s) {W : Type 0} 
       first : left_from w from ≡ one w content ++ left_from (onward w content) next
       unfolding written_of
       first =
-          ap (λ (l : Listing). written_of one onward w l.contents) (rest_found read s y from place n next e)
+          ap (λ (l : Listing). written_of one onward w l.contents) (rest_found read s (reading_of y) from place n next e)
           ∙ ap (λ (k : ℕ). one w (take k (drop place s)) ++ left_from (onward w (take k (drop place s))) next) (sym count)
 
       pub first_length : length (left_from w from) ≡ length (one w content) + length (left_from (onward w content) next)

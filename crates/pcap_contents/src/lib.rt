@@ -62,6 +62,7 @@ pub fn put_all<R: Records, W: Writer>(file: &R, writer: &mut W, out: &mut [u8], 
     ensures { out.new ≡ laid out.old at (written_of W.one W.next writer.old (rest_from (R.read_at file.now) (R.octets file.now) (R.front file.now)).contents) }
 {
     let octets = file.octets();
+    // No iterator: what stands next is a Result of an Option, and the law of `Records` speaks of a place.
     let mut from = file.front();
     let mut end = at;
     loop {
@@ -85,7 +86,7 @@ pub fn put_capture(trace: &[u8], out: &mut [u8])
     put_all(&Trace { octets: trace }, &mut ToCapture, out, FILE_HEADER)
 }
 
-// A trace of the capture's contents, up to its end or to a record that is refused.
+// A trace of the capture's contents, up to its end or to a record that is refused. Order and octets, and no `Capture`: the call is promised so.
 pub fn put_trace(order: Order, capture: &[u8], out: &mut [u8])
     requires { length (trace_of (records_in order capture.now).contents) ≤ length out.old }
     ensures { out.new ≡ over (trace_of (records_in order capture.now).contents) out.old }

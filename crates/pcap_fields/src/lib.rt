@@ -13,7 +13,7 @@ pub enum Order {
     Big,
 }
 
-// The number in the two octets from place i on.
+// The number in the two octets from place i on. Two sizes, each by its octets: over a const size they would stand in a loop.
 pub fn half(order: Order, octets: &[u8], i: usize) -> u32
     requires { i + 2 ≤ length octets.now }
     ensures { result ≡ half_in order octets.now i }

@@ -1,4 +1,5 @@
-// The pieces of a capture file and of a trace, as they are written: a file's header, and a record with its header.
+// The pieces of a capture file and of a trace, as they are written: a file's header, and a record with its header. Memory and place stay two
+// parameters, as in octets: the caller has counted the place (docs/DECISIONS.md, 101).
 #![tactic(auto)]
 
 ghost use Rattle.std.specs.Prelude.{◌≡◌, ◌+◌, ◌≤◌, length};
@@ -30,7 +31,8 @@ fn capture_header(length: u32) -> [u8; 16]
     ]
 }
 
-// A record of a capture, from place at on.
+// A record of a capture, from place at on. That a content is no longer than 1,600 octets is asked for at each call: a type over a slice would ask
+// callers for a value of it.
 pub fn put_capture_record(content: &[u8], out: &mut [u8], at: usize)
     requires { (length content.now ≤ 1600) × (at + 16 + length content.now ≤ length out.old) }
     ensures { out.new ≡ laid out.old at (capture_record content.now) }

@@ -3,12 +3,12 @@
 
 ghost use Rattle.std.specs.Prelude.{◌≡◌, ℕ, List, length};
 ghost use Rattle.trace.specs.Trace as trace;
-ghost use Rattle.trace_layout.specs.Layout.{Reading, rest_from};
-ghost use Rattle.trace_layout.proofs.Inside.{trace_reading};
+ghost use Rattle.trace_layout.specs.Layout.{Headed, rest_from};
+ghost use Rattle.trace_layout.proofs.Inside.{trace_headed};
 ghost use Rattle.pcap_records.specs.Records as capture;
 ghost use Rattle.pcap_lists.specs.Lists.{why_number, read_said, said, number_of, value_of, judged};
 ghost use Rattle.pcap_lists.specs.declared.Why.TheVariants as W;
-ghost use Rattle.pcap_records.proofs.Inside.{capture_reading};
+ghost use Rattle.pcap_records.proofs.Inside.{capture_headed};
 
 use pcap_fields::Order;
 use pcap_records::FILE_HEADER;
@@ -48,7 +48,8 @@ impl From<pcap_records::Refusal> for Why {
     }
 }
 
-// What a call that is given a trace or a capture answers where it does nothing.
+// What a call that is given a trace or a capture answers where it does nothing. gate_lists has its like over u32: one type of both would need a trait
+// of refusals with numbers and a const for each of 64 and 78, which is no plainer.
 #[derive(Clone, Copy)]
 pub enum Error {
     // Why it is refused, and the record's number, the first being 1, and 0 where it is a capture's header.
@@ -98,7 +99,7 @@ pub trait Records {
     fn read(&self, at: usize) -> Result<Option<Span>, Why>
         ensures { read_said result ≡ read_at self.now at };
 
-    ghost reading: { (file : Self) → Reading (read_at file) (octets file) };
+    ghost reading: { (file : Self) → Headed (read_at file) (octets file) };
 }
 
 // A trace that is to be written as a capture.
@@ -122,8 +123,9 @@ impl<'a> Records for Trace<'a> {
         0
     }
 
-    ghost reading = { λ file. trace_reading file.octets.now };
+    ghost reading = { λ file. trace_headed file.octets.now };
 
+    #[inline(always)]
     fn read(&self, at: usize) -> Result<Option<Span>, Why> {
         Ok(Cursor { at }.read(self.octets)?)
     }
@@ -151,8 +153,9 @@ impl<'a> Records for Capture<'a> {
         FILE_HEADER
     }
 
-    ghost reading = { λ file. capture_reading file.order file.octets.now };
+    ghost reading = { λ file. capture_headed file.order file.octets.now };
 
+    #[inline(always)]
     fn read(&self, at: usize) -> Result<Option<Span>, Why> {
         Ok(pcap_records::record_at(self.order, self.octets, at)?)
     }
@@ -162,6 +165,7 @@ impl<'a> Records for Capture<'a> {
 pub fn count<R: Records>(file: &R) -> Result<usize, Error>
     ensures { said result ≡ judged (rest_from (R.read_at file.now) (R.octets file.now) (R.front file.now)) }
 {
+    // No iterator: what stands next is a Result of an Option, and the law of the trait speaks of a place.
     let mut records = 0;
     let mut at = file.front();
     loop {

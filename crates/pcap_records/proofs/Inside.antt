@@ -10,7 +10,8 @@ use lib.Dec.{ltb, eqb}
 use lib.ListN.{length}
 use Rattle.trace.specs.Trace.{limit, found, ended, left}
 use Rattle.trace_layout.proofs.Inside.{passed, over}
-use Rattle.trace_layout.specs.Layout.{Reading}
+use Rattle.trace_layout.specs.Layout.{Reading, Headed}
+use Rattle.trace_layout.proofs.Rest.{reading_of}
 use Rattle.pcap_fields.specs.declared.Order.{Order}
 use Rattle.pcap_records.specs.Records.{header, stored_at, original_at, record_at}
 use Rattle.pcap_records.proofs.Laws.{read_end}
@@ -41,8 +42,8 @@ ended_over o s at p =
     let z : left s at ≡ 0 = eqb-true (left s at) 0 e in
     omega arith
 
-pub capture_reading : (o : Order) (s : List ℕ) → Reading (record_at o s) s
-capture_reading o s =
+pub capture_headed : (o : Order) (s : List ℕ) → Headed (record_at o s) s
+capture_headed o s =
     record {
       ends = λ at h. read_end o s at h;
       grows = λ at place n next e. let w = found_inside o s at place n next e in omega arith;
@@ -51,3 +52,6 @@ capture_reading o s =
       inside = λ at place n next e. (found_inside o s at place n next e).inside;
       within = λ at place n next e. (found_inside o s at place n next e).within;
     }
+
+pub capture_reading : (o : Order) (s : List ℕ) → Reading (record_at o s) s
+capture_reading o s = reading_of (capture_headed o s)

@@ -97,7 +97,8 @@ pub fn open(capture: &[u8]) -> Result<Order, Refusal>
     Err(Refusal::Magic)
 }
 
-// The record at a place, the end, or why the record there is refused.
+// The record at a place, the end, or why the record there is refused. Drawn into its callers, as trace's is.
+#[inline(always)]
 pub fn record_at(order: Order, capture: &[u8], at: usize) -> Result<Option<Span>, Refusal>
     ensures { said result ≡ record_at order capture.now at }
 {

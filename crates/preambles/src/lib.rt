@@ -30,6 +30,7 @@ fn front(mframe: &[u8]) -> u32
 pub fn lead(mframe: &[u8]) -> u32
     ensures { result ≡ min 8 (leading mframe.now) }
 {
+    // By a test and an index: no Option of a reference in what is compiled for the board (docs/DECISIONS.md, 100).
     for n in front(mframe)..TOO_MANY {
         if mframe.len() <= n as usize || mframe[n as usize] != 0x55 {
             return n;

@@ -39,6 +39,7 @@ fn take(kind: Kind, octets: &[u8], record: Record, buffer: &mut [u8]) -> Receive
     got
 }
 
+// Record and buffer stay two: the record goes by value, the buffer is the caller's memory.
 // One mFrame, as a slice from its first octet, a 55 or the delimiter, to its last check octet.
 pub fn receive(mframe: &[u8], record: Record, buffer: &mut [u8]) -> Received
     ensures { Answered mframe.now «record» buffer.old result buffer.new }

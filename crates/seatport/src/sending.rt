@@ -1,10 +1,11 @@
-// The sending calls.
+// The sending calls. Each is an exported function of its own, with the same last lines: C has no generic ones.
 ghost use Rattle.std.specs.Prelude.{length};
 ghost use Rattle.single.specs.Single.{express_of, order_of};
 ghost use Rattle.mframe.specs.declared.Kind.TheVariants as Kinds;
 ghost use Rattle.seatport.specs.Sending.{Wrote, sending_of, Sent};
 
 use mframe::OUTPUT_LEAST;
+use sender_answers::Refusal;
 
 #[unsafe(no_mangle)]
 pub extern "C" fn seatport_express(body: &[u8], out: &mut [u8], written: &mut [u32; 2]) -> u32
@@ -45,7 +46,11 @@ pub extern "C" fn seatport_preemptable(
 {
     let Some(record) = sender_words::sender_in(*sender) else {
         *written = [0, 0];
-        return if out.len() < OUTPUT_LEAST { 30 } else { 31 };
+        return if out.len() < OUTPUT_LEAST {
+            Refusal::Output.number()
+        } else {
+            Refusal::Record.number()
+        };
     };
     let sent = send::preemptable(record, body, sent_words::ask_of(ask), out);
     let answer = sent.answer;

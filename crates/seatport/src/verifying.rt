@@ -1,8 +1,7 @@
 // The verification event, with the wait that an enable carries.
 ghost use Rattle.seatport.specs.Verifying.{verifying_of, Taken};
 
-// What words that are no record's get, and a number that is no event's.
-const UNFIT: u32 = 40;
+use verify_answers::Refusal;
 
 #[unsafe(no_mangle)]
 pub extern "C" fn seatport_step(
@@ -14,11 +13,13 @@ pub extern "C" fn seatport_step(
     ensures { Taken (verifying_of link.old event wait) result ordered.new link.new }
 {
     *ordered = 0;
+    // What words that are no record's get, and a number that is no event's.
+    let unfit = Refusal::Record.number();
     let Some(record) = verify_words::link_in(*link) else {
-        return UNFIT;
+        return unfit;
     };
     let Some(event) = event_words::event_at(event, wait) else {
-        return UNFIT;
+        return unfit;
     };
     let stepped = verify::step(record, event);
     *link = verify_words::link_words(stepped.after);

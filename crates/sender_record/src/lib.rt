@@ -12,7 +12,8 @@ use sender_answers::Refusal;
 // A frame in progress has sent so many octets at least, and has as many left.
 const PART_LEAST: usize = 60;
 
-// The sending record. Length, sent and fragment are those of a frame in progress, and all 0 where there is none.
+// The sending record. Length, sent and fragment are those of a frame in progress, and all 0 where there is none: three numbers and no Option of them,
+// since test 31 (`in_range`) refuses records with one of them alone.
 #[derive(Clone, Copy)]
 pub struct Record {
     pub active: bool,
@@ -46,7 +47,7 @@ impl Record {
 fn is_idle(r: Record) -> bool
     ensures { result ≡ idle r }
 {
-    r.length == 0 && r.sent == 0 && r.fragment.0 == 0
+    r.length == 0 && r.sent == 0 && r.fragment == FragmentCount::ZERO
 }
 
 // Whether the fields of a frame in progress are in range.

@@ -7,7 +7,7 @@ ghost use Rattle.sent_words.specs.Sent.{number_of, written_of, Short, ask_of};
 
 use sender_answers::{Refusal, Written};
 
-// Stands for no ask.
+// Stands for no ask: the C interface has a number there.
 const NO_ASK: usize = 0xFFFF_FFFF_FFFF_FFFF;
 
 // The number that is returned.

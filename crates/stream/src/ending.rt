@@ -15,10 +15,7 @@ use receiver_record::Record;
 pub fn runs_over(more: bool, kept: &[u8]) -> bool
     ensures { result ≡ runs_over more kept.now }
 {
-    if more {
-        return heads::is_known(kept);
-    }
-    false
+    more && heads::is_known(kept)
 }
 
 // An mFrame that runs over: nothing changes.

@@ -10,7 +10,7 @@ use mframe::BODY_MOST;
 use receiver_answers::Refusal as First;
 use stream::{MOST, Refusal, State};
 
-// The state that two words are, where the second is a flag.
+// The state that two words are, where the second is a flag. No Option: a second word that is none is test 19's, which `refusal` and `octet` answer.
 pub fn state_of(words: [u32; 2]) -> State
     ensures { result ≡ state_of words }
 {
@@ -68,14 +68,11 @@ pub fn octet(stream: &mut [u32; 2], area: &mut [u8], octet: u8) -> Result<(), Re
 pub fn number_of(answer: Result<(), Refusal>) -> u32
     ensures { result ≡ told answer }
 {
-    match answer {
-        Ok(()) => 0,
-        Err(why) => why.number(),
-    }
+    answer.err().map_or(0, Refusal::number)
 }
 
 // What the first receiver answers to an mFrame that runs over, by the words of its record; it changes nothing.
-// That the words are nine is told for callers, who lend them.
+// That the words are nine is told for callers, who lend them. It is `stream`'s own over words, since words that are no record's are refused here too.
 #[tactic(auto, using(rules::proofs::Tests::tests), unfolding(crate::specs::State::too_long))]
 pub fn too_long(receiver: [u32; 9], room: usize) -> First
     ensures { (refused result ≡ says (too_long receiver room) 0) × (length receiver ≡ 9) }

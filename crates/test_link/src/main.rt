@@ -125,12 +125,7 @@ fn send_one(before: Link, out: &mut [u8; 1530]) -> Link {
 }
 
 // An mFrame that arrives: the receiver's answer.
-fn arrive(
-    rt: HostRuntime,
-    l: Link,
-    mframe: &[u8],
-    buffer: &mut [u8; 1518],
-) -> Result<Link, Stop> {
+fn arrive(rt: HostRuntime, l: Link, mframe: &[u8], buffer: &mut [u8; 1518]) -> Result<Link, Stop> {
     let got = receive::receive(mframe, l.receiver, buffer);
     let number = got.answer.number();
     say::first(rt, u64::from(number));
@@ -166,12 +161,7 @@ fn shortened(mframe: &[u8], dropped: u32) -> &[u8] {
 }
 
 // The fate of an mFrame: lost, or how many of its leading octets 55 the link drops.
-fn fate(
-    rt: HostRuntime,
-    l: Link,
-    out: &[u8],
-    buffer: &mut [u8; 1518],
-) -> Result<Link, Stop> {
+fn fate(rt: HostRuntime, l: Link, out: &[u8], buffer: &mut [u8; 1518]) -> Result<Link, Stop> {
     let x = chance::step(l.x);
     let lost = is_lost(x, l.preemptable, l.tally.run);
     let tally = if l.preemptable {

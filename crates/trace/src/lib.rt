@@ -68,7 +68,10 @@ impl Cursor {
         Cursor { at: 0 }
     }
 
-    // The record at the cursor, the end, or why the record there is refused.
+    // The record at the cursor, the end, or why the record there is refused. Drawn into its callers, since a copy of what is read would call the C
+    // library's (include/seatport.h names all that it has to give).
+    #[inline(always)]
+    #[tactic(auto, using(crate::proofs::Laws::read_end, crate::proofs::Laws::header_cut, crate::proofs::Laws::length_over, crate::proofs::Laws::kind_other, crate::proofs::Laws::content_cut, crate::proofs::Laws::read_whole))]
     pub fn read(self, trace: &[u8]) -> Result<Option<Span>, Refusal>
         ensures { said result ≡ read_at trace.now self.at }
     {

@@ -10,7 +10,8 @@ use lib.Dec.{ltb, eqb}
 use lib.ListN.{length}
 use Rattle.rules.proofs.Tests.{never}
 use Rattle.trace.proofs.Laws.{read_end}
-use Rattle.trace_layout.specs.Layout.{Reading}
+use Rattle.trace_layout.specs.Layout.{Reading, Headed}
+use Rattle.trace_layout.proofs.Rest.{reading_of}
 use Rattle.trace.specs.Trace.{header, limit, kind, Said, found, ended, refused, length_at, kind_at, left, read_at}
 
 -- where a record that is found lies: its content right behind the header, the next record right behind the content, all of it in the trace;
@@ -75,8 +76,8 @@ ended_over s at p =
     omega arith
 
 -- so a trace is read on and on up to its end
-pub trace_reading : (s : List ℕ) → Reading (read_at s) s
-trace_reading s =
+pub trace_headed : (s : List ℕ) → Headed (read_at s) s
+trace_headed s =
     record {
       ends = λ at h. read_end s at h;
       grows = λ at place n next e. let w = found_inside s at place n next e in omega arith;
@@ -85,3 +86,6 @@ trace_reading s =
       inside = λ at place n next e. (found_inside s at place n next e).inside;
       within = λ at place n next e. (found_inside s at place n next e).within;
     }
+
+pub trace_reading : (s : List ℕ) → Reading (read_at s) s
+trace_reading s = reading_of (trace_headed s)

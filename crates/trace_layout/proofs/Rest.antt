@@ -7,7 +7,10 @@ use native.Mathlib.Omega.{arith}
 use lib.ListN.{length, take, drop}
 use Rattle.rules.proofs.Tests.{never}
 use Rattle.trace.specs.Trace.{Said, found, ended, refused}
-use Rattle.trace_layout.specs.Layout.{Reading, Listing, onward, list_from, rest_from}
+use Rattle.trace_layout.specs.Layout.{Reading, Headed, Listing, onward, list_from, rest_from}
+
+pub reading_of : {read : ℕ → Said} {s : List ℕ} → Headed read s → Reading read s
+reading_of h = record { ends = h.ends; grows = h.grows }
 
 module _ (read : ℕ → Said) (s : List ℕ) (w : Reading read s) where
   -- where nothing is left, any number of records may be allowed

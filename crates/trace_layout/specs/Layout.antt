@@ -43,9 +43,14 @@ rest_from read s at = list_from read s (length s - at) at
 abbrev pub read_all : List ℕ → Listing
 read_all s = rest_from (read_at s) s 0
 
--- a way of reading octets: the end is at the end; a record that is found ends further on, by a header's four octets at least, in the octets, right
--- behind its content, which is no longer than the limit
+-- a way of reading: the end is at the end, and a record that is found ends further on
 pub record Reading (read : ℕ → Said) (s : List ℕ) : Type 0 where
+  pub ends : (at : ℕ) → length s ≤ at → read at ≡ ended
+  pub grows : (at place n next : ℕ) → read at ≡ found place n next → at < next
+
+-- a way of reading records that have a header: one that is found also ends further on by four octets at least, in the octets, right behind its
+-- content, which is no longer than the limit
+pub record Headed (read : ℕ → Said) (s : List ℕ) : Type 0 where
   pub ends : (at : ℕ) → length s ≤ at → read at ≡ ended
   pub grows : (at place n next : ℕ) → read at ≡ found place n next → at < next
   pub least : (at place n next : ℕ) → read at ≡ found place n next → at + header ≤ next

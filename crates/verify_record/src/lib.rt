@@ -62,7 +62,7 @@ impl TryFrom<u32> for Phase {
 }
 
 // The phase; in trying the attempt and the milliseconds that it has left, else 0 and 0; whether a response is owed; the milliseconds that each
-// attempt waits.
+// attempt waits. The two stand beside the phase and not in it: test 40 (`in_range`) refuses records that have them in another phase.
 #[derive(Clone, Copy, PartialEq, Eq)]
 pub struct Record {
     pub phase: Phase,

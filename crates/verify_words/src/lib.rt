@@ -1,7 +1,8 @@
 // The verification record (`struct seatport_link` in C) as words of 32 bits.
 #![tactic(auto)]
 
-ghost use Rattle.std.specs.Prelude.{◌≡◌, IsTrue, SomeIff};
+ghost use Rattle.std.specs.Prelude.{◌≡◌, ◌≤◌, IsTrue, SomeIff};
+ghost use Rattle.words.specs.Words.{word};
 ghost use Rattle.verify_words.specs.Link.{link_words, link_fits, link_of};
 
 use verify_record::{Phase, Record};
@@ -19,6 +20,21 @@ pub fn link_in(words: [u32; 5]) -> Option<Record>
         owed: words::flag_of(owed)?,
         wait: u8::try_from(wait).ok()?,
     })
+}
+
+// The record that five words are where three are octets: a phase over 3 is that of a link that failed, and an owed flag is set where it is 1. It
+// stands beside `link_in` for what it promises of words that are no record's.
+pub fn link_of(words: [u32; 5]) -> Record
+    requires { (word words 1 ≤ 255) × (word words 2 ≤ 255) × (word words 4 ≤ 255) }
+    ensures { result ≡ link_of words }
+{
+    Record {
+        phase: Phase::try_from(words[0]).unwrap_or(Phase::Failed),
+        attempt: words[1] as u8,
+        left: words[2] as u8,
+        owed: words[3] == 1,
+        wait: words[4] as u8,
+    }
 }
 
 // The five words of a record.

@@ -129,7 +129,9 @@ impl<const N: usize> Waiting<N> {
     // Makes room for a piece: behind what waits, or at the front once that is written.
     pub fn make_room<W: Write>(&mut self, room: usize, output: &mut W) -> Result<(), Unwritten>
         requires { room ≤ N }
-        ensures { OnOk result (self.new.end + room ≤ N) }
+        ensures room { OnOk result (self.new.end + room ≤ N) }
+        ensures kept { self.new.octets ≡ self.old.octets }
+        ensures stays { OnErr result (self.new.end ≡ self.old.end) }
     {
         if self.end <= N - room {
             return Ok(());
@@ -139,7 +141,9 @@ impl<const N: usize> Waiting<N> {
 
     // Writes all that waits.
     pub fn write<W: Write>(&mut self, output: &mut W) -> Result<(), Unwritten>
-        ensures { OnOk result (self.new.end ≡ 0) }
+        ensures empty { OnOk result (self.new.end ≡ 0) }
+        ensures kept { self.new.octets ≡ self.old.octets }
+        ensures stays { OnErr result (self.new.end ≡ self.old.end) }
     {
         output.write_all(front(&self.octets, self.end))?;
         self.end = 0;

@@ -13,6 +13,9 @@ use Rattle.gate_lists.proofs.Good.{entries_good}
 use Rattle.gate_contents.proofs.Turns.{octets_put, all_put}
 use Rattle.gate_contents.proofs.put_octets.Goals as goal
 
+pub overflow_cast-i-end : goal.overflow_cast-i-end
+overflow_cast-i-end c = omega (arith, (entries_good _ _ c.requires.0).bound)
+
 pub octets_of-octets-requires : goal.octets_of-octets-requires
 octets_of-octets-requires c =
     let es = c.args.entries.now in

@@ -13,14 +13,14 @@ unfolding receiving_of
 returns-then-buffer-lt-BODY_MOST c =
     let unfit = false_from_ne_true _ c.in_default.ensures.value in
     let t0 = c.if-buffer-lt-BODY_MOST.true in
-    simp (unfit, tests) (record { answer = refl; value = refl; after = refl; octets = refl })
+    simp (unfit, tests) (record { answer = c.number.ensures; value = refl; after = refl; octets = refl })
 
 pub returns-else-buffer-lt-BODY_MOST : goal.returns-else-buffer-lt-BODY_MOST
 unfolding receiving_of
 returns-else-buffer-lt-BODY_MOST c =
     let unfit = false_from_ne_true _ c.in_default.ensures.value in
     let t0 = c.if-buffer-lt-BODY_MOST.false in
-    simp (unfit, tests) (record { answer = refl; value = refl; after = refl; octets = refl })
+    simp (unfit, tests) (record { answer = c.number-else-buffer-lt-BODY_MOST.ensures; value = refl; after = refl; octets = refl })
 
 pub receiver_words-requires : goal.receiver_words-requires
 receiver_words-requires c =

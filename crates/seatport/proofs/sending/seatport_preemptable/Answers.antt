@@ -14,14 +14,14 @@ unfolding sending_of
 returns-then-out-lt-OUTPUT_LEAST c =
     let unfit = false_from_ne_true _ c.in_default.ensures.value in
     let t0 = c.if-out-lt-OUTPUT_LEAST.true in
-    simp (unfit, tests) (record { answer = refl; words = refl; after = refl; octets = refl })
+    simp (unfit, tests) (record { answer = c.number.ensures; words = refl; after = refl; octets = refl })
 
 pub returns-else-out-lt-OUTPUT_LEAST : goal.returns-else-out-lt-OUTPUT_LEAST
 unfolding sending_of
 returns-else-out-lt-OUTPUT_LEAST c =
     let unfit = false_from_ne_true _ c.in_default.ensures.value in
     let t0 = c.if-out-lt-OUTPUT_LEAST.false in
-    simp (unfit, tests) (record { answer = refl; words = refl; after = refl; octets = refl })
+    simp (unfit, tests) (record { answer = c.number-else-out-lt-OUTPUT_LEAST.ensures; words = refl; after = refl; octets = refl })
 
 pub sender_words-requires : goal.sender_words-requires
 sender_words-requires c =

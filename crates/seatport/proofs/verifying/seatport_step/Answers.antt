@@ -8,12 +8,12 @@ use Rattle.seatport.proofs.verifying.seatport_step.Goals as goal
 pub returns-in_default : goal.returns-in_default
 unfolding verifying_of
 returns-in_default c =
-    simp (false_from_ne_true _ c.in_default.ensures) (record { answer = refl; value = refl; after = refl })
+    simp (false_from_ne_true _ c.in_default.ensures) (record { answer = c.number-unfit.ensures; value = refl; after = refl })
 
 pub returns-in_default-event_at : goal.returns-in_default-event_at
 unfolding verifying_of
 returns-in_default-event_at c =
-    simp (c.in-Some.ensures.0, false_from_ne_true _ c.in_default-event_at.ensures) (record { answer = refl; value = refl; after = refl })
+    simp (c.in-Some.ensures.0, false_from_ne_true _ c.in_default-event_at.ensures) (record { answer = c.number-unfit.ensures; value = refl; after = refl })
 
 pub returns : goal.returns
 unfolding verifying_of
