@@ -8,11 +8,9 @@ use native.Mathlib.Omega.{arith}
 use lib.Dec.{eqb}
 use lib.ListN.{length, take, get_or, length-append}
 use lib.Seq.{length-take-le}
-use Rattle.text.specs.Text.{line_end, decimal_of}
-use Rattle.text.specs.Pages.{Puts}
-use Rattle.text.specs.declared.Page.{Page}
+use Rattle.text.specs.Text.{Put, line_end, decimal_of}
 use Rattle.text.proofs.Laws.{digits_length}
-use Rattle.hold_lines.specs.HoldLines.{hold_word, release_word, word_line, event_line, event_lines, cycle_line}
+use Rattle.hold_lines.specs.HoldLines.{hold_word, release_word, word_line, event_line, event_lines, cycle_line, all_lines}
 
 -- what happens
 either_length : (t : Bool) → length (cond t hold_word release_word) ≤ 9
@@ -44,24 +42,27 @@ cycle_length : (cycle : ℕ) → length (cycle_line cycle) ≤ 27
 cycle_length cycle = omega (arith, digits_length 20 cycle, length-append (decimal_of cycle) (line_end ∷ []))
 
 -- the same of what is put: the place behind it
-module _ {a b : Page} where
-  pub number_end : (n : ℕ) → Puts (decimal_of n) a b → b.at ≤ a.at + 20
-  number_end n p = omega (arith, p.put.place, digits_length 20 n)
+module _ {at r : ℕ} {out x : List ℕ} where
+  pub number_end : (n : ℕ) → Put (decimal_of n) at out r x → r ≤ at + 20
+  number_end n p = omega (arith, p.place, digits_length 20 n)
 
-  pub word_end : (operation : ℕ) → Puts (word_line operation) a b → b.at ≤ a.at + 9
-  word_end operation p = omega (arith, p.put.place, word_length operation)
+  pub word_end : (operation : ℕ) → Put (word_line operation) at out r x → r ≤ at + 9
+  word_end operation p = omega (arith, p.place, word_length operation)
 
-  pub event_end : (time operation : ℕ) → Puts (event_line time operation) a b → b.at ≤ a.at + 29
-  event_end time operation p = omega (arith, p.put.place, event_length time operation)
+  pub event_end : (time operation : ℕ) → Put (event_line time operation) at out r x → r ≤ at + 29
+  event_end time operation p = omega (arith, p.place, event_length time operation)
 
-  pub events_end : (es : List (List ℕ)) → Puts (event_lines es) a b → b.at ≤ a.at + length es * 29
-  events_end es p = omega (arith, p.put.place, events_length es)
+  pub events_end : (es : List (List ℕ)) → Put (event_lines es) at out r x → r ≤ at + length es * 29
+  events_end es p = omega (arith, p.place, events_length es)
 
-  pub so_far_end : (i : ℕ) (es : List (List ℕ)) → i ≤ length es → Puts (event_lines (take i es)) a b → b.at ≤ a.at + i * 29
+  pub so_far_end : (i : ℕ) (es : List (List ℕ)) → i ≤ length es → Put (event_lines (take i es)) at out r x → r ≤ at + i * 29
   so_far_end i es h p = omega (arith, events_end (take i es) p, length-take-le i es h)
 
-  pub cycle_end : (cycle : ℕ) → Puts (cycle_line cycle) a b → b.at ≤ a.at + 27
-  cycle_end cycle p = omega (arith, p.put.place, cycle_length cycle)
+  pub cycle_end : (cycle : ℕ) → Put (cycle_line cycle) at out r x → r ≤ at + 27
+  cycle_end cycle p = omega (arith, p.place, cycle_length cycle)
+
+  pub all_end : (es : List (List ℕ)) (cycle : ℕ) → Put (all_lines es cycle) at out r x → r ≤ at + (length es * 29 + 27)
+  all_end es cycle p = omega (arith, p.place, events_length es, cycle_length cycle, length-append (event_lines es) (cycle_line cycle))
 
 -- one event more
 pub events_next : (i : ℕ) (es : List (List ℕ)) → i < length es → event_lines (take (suc i) es) ≡ event_lines (take i es) ++ line_of (get_or es i [])

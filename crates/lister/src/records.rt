@@ -1,4 +1,6 @@
 // The listing of a trace, record by record.
+ghost use Rattle.std.specs.Prelude.{◌≡◌, length};
+
 use crate::trouble::Trouble;
 use mframe::BODY_MOST;
 use programs::Unwritten;
@@ -36,6 +38,17 @@ enum Found {
     Record(Span),
     Refused(Refusal),
     End,
+}
+
+// The page that begins behind what waits.
+fn behind(text: &mut Waiting<ROOM>) -> Page<'_>
+    ensures { (result.at ≡ text.old.end) × (length result.out.now ≡ 65536) }
+{
+    let at = text.end;
+    Page {
+        out: &mut text.octets,
+        at,
+    }
 }
 
 impl Listing {
@@ -88,11 +101,7 @@ impl Listing {
     fn list_record(&mut self, rt: HostRuntime, span: Span) -> Result<(), Unwritten> {
         self.text.make_room(LINE, &mut rt.stdout())?;
         let content = part(self.window.rest(), span.start, span.next);
-        let text = &mut self.text;
-        let mut page = Page {
-            out: &mut text.octets,
-            at: text.end,
-        };
+        let mut page = behind(&mut self.text);
         self.receiver = listing::list(
             &mut page,
             self.number,
@@ -110,13 +119,9 @@ impl Listing {
     fn stop(&mut self, rt: HostRuntime, why: Refusal) -> Result<(), Unwritten> {
         self.text.make_room(LINE, &mut rt.stdout())?;
         let number = self.number;
-        let text = &mut self.text;
-        let mut page = Page {
-            out: &mut text.octets,
-            at: text.end,
-        };
+        let mut page = behind(&mut self.text);
         lines::stop_line(&mut page, number, u64::from(why.number()));
-        text.end = page.at;
+        self.text.end = page.at;
         self.trouble = Some(Trouble::Refused(RefusedRecord { number, why }));
         Ok(())
     }
@@ -125,11 +130,7 @@ impl Listing {
     fn finish(&mut self, rt: HostRuntime) -> Result<(), Unwritten> {
         self.text.make_room(LINE, &mut rt.stdout())?;
         let counters = self.receiver.counters;
-        let text = &mut self.text;
-        let mut page = Page {
-            out: &mut text.octets,
-            at: text.end,
-        };
+        let mut page = behind(&mut self.text);
         lines::end_line(
             &mut page,
             u64::from(counters.errors),
@@ -137,7 +138,7 @@ impl Listing {
             u64::from(counters.assembled),
             u64::from(counters.fragments),
         );
-        text.end = page.at;
+        self.text.end = page.at;
         self.text.write(&mut rt.stdout())
     }
 

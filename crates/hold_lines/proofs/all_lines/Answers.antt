@@ -9,5 +9,5 @@ pub returns : goal.returns
 returns c =
     let first = c.event_lines.ensures in
     let second = c.cycle_line.ensures in
-    let both = puts_puts first second (omega (arith, events_end _ first, cycle_end _ second)) in
+    let both = puts_puts first second (omega (arith, events_end _ first.put, cycle_end _ second.put)) in
     record { place = both.put.place; octets = let m = both.memory in let o = both.put.octets in search rules }

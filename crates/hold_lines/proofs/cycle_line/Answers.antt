@@ -10,5 +10,5 @@ returns c =
     let second = c.number.ensures in
     let third = c.octet.ensures in
     puts_puts first
-    (puts_puts second third (omega (arith, first.put.place, first.long, number_end _ second, third.put.place)))
-    (omega (arith, first.put.place, number_end _ second, third.put.place))
+    (puts_puts second third (omega (arith, first.put.place, first.long, number_end _ second.put, third.put.place)))
+    (omega (arith, first.put.place, number_end _ second.put, third.put.place))

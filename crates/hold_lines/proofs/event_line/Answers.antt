@@ -8,4 +8,4 @@ pub returns : goal.returns
 returns c =
     let first = c.number.ensures in
     let second = c.word_line.ensures in
-    puts_puts first second (omega (arith, number_end _ first, word_end _ second))
+    puts_puts first second (omega (arith, number_end _ first.put, word_end _ second.put))

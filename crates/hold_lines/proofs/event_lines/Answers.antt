@@ -19,7 +19,7 @@ pub event_line-requires : goal.event_line-requires
 event_line-requires c =
     let l = c.loop-event in
     let i : l.event-index ≤ length c.args.events.now = omega arith in
-    omega (arith, so_far_end l.event-index _ i l.invariant, l.invariant.long)
+    omega (arith, so_far_end l.event-index _ i l.invariant.put, l.invariant.long)
 
 pub loop-event-preserved : goal.loop-event-preserved
 loop-event-preserved c =
@@ -28,7 +28,7 @@ loop-event-preserved c =
     let line = c.event_line.ensures in
     let less : l.event-index < length es = omega arith in
     let i : l.event-index ≤ length es = omega arith in
-    let both = puts_puts l.invariant line (omega (arith, so_far_end l.event-index es i l.invariant, event_end _ _ line)) in
+    let both = puts_puts l.invariant line (omega (arith, so_far_end l.event-index es i l.invariant.put, event_end _ _ line.put)) in
     rw (add-one l.event-index) (rw (events_next l.event-index es less) both)
 
 pub returns : goal.returns
