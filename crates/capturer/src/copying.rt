@@ -48,7 +48,7 @@ impl From<Option<Span>> for Found {
 }
 
 // Where the copying stands: the file that is made, the receiver's record, by which a capture for eyes is made, its assembly buffer, what comes
-// next, its number if it is a record, the part of the input that was read and not yet copied, and what waits to be written.
+// next, the number of the record that is read next, the part of the input that was read and not yet copied, and what waits to be written.
 #[derive(Drop)]
 struct Copying {
     made: File,

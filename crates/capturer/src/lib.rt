@@ -17,7 +17,7 @@ use std::io::{IsTerminal, Print, Read};
 use text::Page;
 use windows::front;
 
-// The longest name: what stands behind it until the file is whole has to fit, too.
+// The longest name: what stands behind it until the file is whole has to fit, too. Names stand in memory of a fixed size, as there is no heap.
 const NAME: usize = 4089;
 
 // Gives a file that is whole its name, and removes any other.

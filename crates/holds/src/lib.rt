@@ -17,7 +17,7 @@ use std::process::ExitCode;
 use std::{fs, str};
 use windows::front;
 
-// The octets of the longest name, and one more.
+// The octets of the longest name, and one more: memory of a fixed size, as there is no heap.
 const NAME: usize = 4096;
 
 // The most entries of a list, and so the most events.

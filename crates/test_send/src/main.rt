@@ -10,7 +10,7 @@ use test_questions::read::Question;
 use test_questions::stop::Stop;
 use test_questions::{read, say};
 
-// What is kept from question to question: the record, and the body, of which so many octets were given.
+// What is kept from question to question: the record, and the body, of which so many octets were given: memory of a fixed size, as there is no heap.
 #[derive(Clone, Copy)]
 struct Kept {
     record: Record,
