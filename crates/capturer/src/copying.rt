@@ -47,67 +47,23 @@ impl From<Option<Span>> for Found {
     }
 }
 
-// Where the copying stands: the file that is made, the receiver's record, by which a capture for eyes is made, its assembly buffer, what comes
-// next, the number of the record that is read next, the part of the input that was read and not yet copied, and what waits to be written.
+// What is made: which file, the receiver's record, by which a capture for eyes is made, its assembly buffer, and what waits to be written.
 #[derive(Drop)]
-struct Copying {
+struct Making {
     made: File,
     receiver: Record,
     assembly: [u8; BODY_MOST],
-    next: Next,
-    number: u64,
-    window: Window<ROOM>,
     out: Waiting<ROOM>,
 }
 
-impl Copying {
-    // Before the first record: a capture that is made begins with its header, and so does one that is read.
-    fn new(made: File) -> Copying {
-        let mut octets = [0u8; ROOM];
-        let (next, end) = match made {
-            File::Trace => (Next::FileHeader, 0),
-            File::Capture | File::CaptureForEyes => {
-                pcap_headers::put_file_header(&mut octets);
-                (Next::TraceRecord, FILE_HEADER)
-            }
-        };
-        Copying {
-            made,
-            receiver: Record::fresh(),
-            assembly: [0; BODY_MOST],
-            next,
-            number: 1,
-            window: Window::new(),
-            out: Waiting { octets, end },
-        }
-    }
-
-    // What stands at the window's front. A match over an enum: each arm takes other values of the same struct, so closures would be no plainer.
-    fn find(&self) -> Result<Found, Trouble> {
-        if self.window.is_short() {
-            return Ok(Found::Part);
-        }
-        let octets = self.window.rest();
-        let number = self.number;
-        match self.next {
-            Next::FileHeader => pcap_records::open(octets)
-                .map(Found::FileHeader)
-                .map_err(|why| Trouble::Capture(RefusedCapture { number: 0, why })),
-            Next::TraceRecord => Cursor::new()
-                .read(octets)
-                .map(Found::from)
-                .map_err(|why| Trouble::Trace(RefusedRecord { number, why })),
-            Next::CaptureRecord(order) => pcap_records::record_at(order, octets, 0)
-                .map(Found::from)
-                .map_err(|why| Trouble::Capture(RefusedCapture { number, why })),
-        }
-    }
-
-    // A record of the file that is made, behind what waits.
-    fn put(&mut self, span: Span)
+impl Making {
+    // A record, behind what waits. Never drawn into its caller, where content and out would be parts of one struct: the compiler then takes them for
+    // places that may overlap, and copies a long record word by word (1.8 times the instructions).
+    #[inline(never)]
+    fn put(&mut self, content: &[u8])
         requires { self.old.out.end + 1616 ≤ 65536 }
     {
-        let content = front(part(self.window.rest(), span.start, span.next), LIMIT);
+        let content = front(content, LIMIT);
         let out = &mut self.out;
         let at = out.end;
         let in_capture = at + pcap_records::HEADER + content.len();
@@ -132,11 +88,68 @@ impl Copying {
             }
         }
     }
+}
+
+// Where the copying stands: what is made, what comes next, the number of the record that is read next, and the part of the input that was read and
+// not yet copied.
+#[derive(Drop)]
+struct Copying {
+    making: Making,
+    next: Next,
+    number: u64,
+    window: Window<ROOM>,
+}
+
+impl Copying {
+    // Before the first record: a capture that is made begins with its header, and so does one that is read.
+    fn new(made: File) -> Copying {
+        let mut octets = [0u8; ROOM];
+        let (next, end) = match made {
+            File::Trace => (Next::FileHeader, 0),
+            File::Capture | File::CaptureForEyes => {
+                pcap_headers::put_file_header(&mut octets);
+                (Next::TraceRecord, FILE_HEADER)
+            }
+        };
+        Copying {
+            making: Making {
+                made,
+                receiver: Record::fresh(),
+                assembly: [0; BODY_MOST],
+                out: Waiting { octets, end },
+            },
+            next,
+            number: 1,
+            window: Window::new(),
+        }
+    }
+
+    // What stands at the window's front. A match over an enum: each arm takes other values of the same struct, so closures would be no plainer.
+    fn find(&self) -> Result<Found, Trouble> {
+        if self.window.is_short() {
+            return Ok(Found::Part);
+        }
+        let octets = self.window.rest();
+        let number = self.number;
+        match self.next {
+            Next::FileHeader => pcap_records::open(octets)
+                .map(Found::FileHeader)
+                .map_err(|why| Trouble::Capture(RefusedCapture { number: 0, why })),
+            Next::TraceRecord => Cursor::new()
+                .read(octets)
+                .map(Found::from)
+                .map_err(|why| Trouble::Trace(RefusedRecord { number, why })),
+            Next::CaptureRecord(order) => pcap_records::record_at(order, octets, 0)
+                .map(Found::from)
+                .map_err(|why| Trouble::Capture(RefusedCapture { number, why })),
+        }
+    }
 
     // A good record, whose content lies here in the window.
     fn copy_record(&mut self, output: &mut fs::File, span: Span) -> Result<(), Trouble> {
-        self.out.make_room(LONGEST, output)?;
-        self.put(span);
+        self.making.out.make_room(LONGEST, output)?;
+        self.making
+            .put(part(self.window.rest(), span.start, span.next));
         self.number = self.number.wrapping_add(1);
         self.window.pass(span.next);
         Ok(())
@@ -144,7 +157,7 @@ impl Copying {
 
     // The end of the input: what waits is written, and all of it reaches the disk.
     fn finish(&mut self, output: &mut fs::File) -> Result<(), Trouble> {
-        self.out.write(output)?;
+        self.making.out.write(output)?;
         output.sync_all().map_err(|_| Trouble::Unwritten)
     }
 

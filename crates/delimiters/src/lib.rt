@@ -16,8 +16,9 @@ pub fn distance(octet: u8) -> u32
     ensures { result ≡ distance_of octet }
 {
     let mut best: u32 = 8;
-    for delimiter in &ELEVEN {
-        let bits = (octet ^ *delimiter).count_ones();
+    // Counted in a u32: a usize has 64 bits on the board too, and a loop over the codes themselves counts in one.
+    for i in 0..11u32 {
+        let bits = (octet ^ ELEVEN[i as usize]).count_ones();
         // Any two of the eleven are four bits apart, so no other is nearer.
         if bits <= 2 {
             return bits;

@@ -9,30 +9,38 @@ ghost use Rattle.event_words.specs.Events.{is_event, event_of};
 use verify::Event;
 use verify_answers::{Answer, Refusal};
 
-// The event that a number is, if any; the wait is an enable's, and no other event looks at it. The receiver's answers 3 and 4 are those of what was
-// heard; no other answer of it is an event.
-#[tactic(auto, unfolding(crate::specs::Events::is_event))]
-pub fn event_at(n: u32, wait: u32) -> Option<Event>
-    ensures { SomeIff result (IsTrue (is_event n)) (event_of n wait) }
+// Whether a number is an event's. The receiver's answers 3 and 4 are those of what was heard; no other answer of it is an event.
+#[tactic(auto, using(rules::proofs::Tests::tests), unfolding(crate::specs::Events::is_event))]
+pub fn is_event(n: u32) -> bool
+    ensures { result ≡ is_event n }
 {
-    match n {
-        3 => Some(Event::VerifyHeard),
-        4 => Some(Event::ResponseHeard),
-        5 => Some(Event::ResponseSent),
-        6 => Some(Event::Millisecond),
-        7 => Some(Event::Enable(wait)),
-        8 => Some(Event::Disable),
-        9 => Some(Event::LinkFailed),
-        _ => None,
-    }
+    (3..=9).contains(&n)
 }
 
-// The event that a number is, and of a number that is none the failure of the link: it stands for what a call that could not fail promised.
-#[tactic(auto, unfolding(crate::specs::Events::is_event, crate::specs::Events::event_of))]
+// The event that it then is; the wait is an enable's, and no other event looks at it.
 pub fn event_of(n: u32, wait: u32) -> Event
     ensures { result ≡ event_of n wait }
 {
-    event_at(n, wait).unwrap_or(Event::LinkFailed)
+    match n {
+        3 => Event::VerifyHeard,
+        4 => Event::ResponseHeard,
+        5 => Event::ResponseSent,
+        6 => Event::Millisecond,
+        7 => Event::Enable(wait),
+        8 => Event::Disable,
+        _ => Event::LinkFailed,
+    }
+}
+
+// The event that a number is, if any. Judged and then read, which takes fewer instructions than both in one match.
+pub fn event_at(n: u32, wait: u32) -> Option<Event>
+    ensures { SomeIff result (IsTrue (is_event n)) (event_of n wait) }
+{
+    if is_event(n) {
+        Some(event_of(n, wait))
+    } else {
+        None
+    }
 }
 
 // The number that is returned. sent_words and stream_words have this line too: a generic one would need a trait of all refusals with its law.

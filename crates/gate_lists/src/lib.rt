@@ -57,7 +57,8 @@ pub struct Accepted<'a> {
     pub ghost judged: { of_octets octets.now ≡ good entries },
 }
 
-// Octets that are read.
+// Octets that are read. Drawn into its callers, since to hand the answer back in memory costs more than to judge a list of no octets.
+#[inline(always)]
 pub fn of_octets(list: &[u8]) -> Answer
     ensures { said result ≡ of_octets list.now }
 {

@@ -26,13 +26,13 @@ const MOST: usize = 256;
 // The room for all lines: one of 29 octets at most for each event, and the last one, of 27 at most.
 const ROOM: usize = MOST * 29 + 27;
 
-// All lines, in one piece.
+// All lines, in one piece. A slice and no cut to what is there: so it is proved that the lines end inside the memory.
 fn write(rt: HostRuntime, events: &[[u64; 2]], cycle: u64) -> Result<(), Unwritten>
     requires { length events.now ≤ 256 }
 {
     let mut out = [0u8; ROOM];
     let end = hold_lines::all_lines(events, cycle, &mut out);
-    rt.write_all(front(&out, end))?;
+    rt.write_all(&out[..end])?;
     Ok(())
 }
 

@@ -164,7 +164,8 @@ impl Listing {
 }
 
 // The listing of standard input, on standard output; why it goes no further, if anything is wrong with the trace. A proved loop has to end, and
-// nothing says that the input does: it has more turns than any input.
+// nothing says that the input does: it has more turns than any input. A function by itself: the listing is off the stack before a sentence is said.
+#[inline(never)]
 pub(crate) fn list_all(rt: HostRuntime) -> Result<Option<Trouble>, Unwritten> {
     let mut listing = Listing::new();
     for _ in 0..u64::MAX {

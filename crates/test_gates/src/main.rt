@@ -68,7 +68,7 @@ fn lent<T: Row>(space: &mut [T], n: usize, first: u8) -> Result<&mut [T], Stop>
     requires { length space.old ≤ 300 }
 {
     let mut octets = [0u8; 4800];
-    read::lent(&mut octets, 4800, first)?;
+    read::lent(&mut octets, 4800, first);
     take(&octets, space);
     space.get_mut(..n).ok_or(Stop::Broken)
 }
@@ -116,7 +116,7 @@ fn write_list(rt: HostRuntime, q: Question) -> Result<(), Stop> {
         return Err(Stop::Broken);
     }
     read::octets(rt, &mut given, n * 12)?;
-    let out = read::lent(&mut space, q.short(3), q.octet(5))?;
+    let out = read::lent_whole(&mut space, q.short(3), q.octet(5))?;
     take(&given, &mut entries);
     let answer = gates::write_list(read::front(&entries, n), out);
     say::text(rt, b"write");

@@ -18,7 +18,7 @@ pub fn ask<F: FnOnce(&[u8], &mut [u8]) -> Result<usize, Error>>(
     let mut given = [0u8; 8192];
     let mut space = [0u8; 8192];
     let given = read::octets(rt, &mut given, q.short(1))?;
-    let lent = read::lent(&mut space, q.short(3), q.octet(5))?;
+    let lent = read::lent_whole(&mut space, q.short(3), q.octet(5))?;
     let answer = call(given, lent);
     say::text(rt, name);
     say::number(rt, u64::from(pcap_lists::number(answer)));

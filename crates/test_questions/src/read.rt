@@ -79,14 +79,22 @@ pub fn octets(rt: HostRuntime, space: &mut [u8], n: usize) -> Result<&mut [u8], 
     Ok(part)
 }
 
-// Lent memory: the first n octets of the space. No call wrote them: place i has the octet (first + i) modulo 256.
-pub fn lent(space: &mut [u8], n: usize, first: u8) -> Result<&mut [u8], Stop> {
+// Lent memory: the first n octets of the space, or all where there are fewer. No call wrote them: place i has the octet (first + i) modulo 256.
+pub fn lent(space: &mut [u8], n: usize, first: u8) -> &mut [u8] {
     let mut x = first;
     for place in &mut *space {
         *place = x;
         x = x.wrapping_add(1);
     }
-    space.get_mut(..n).ok_or(Stop::Broken)
+    front_mut(space, n)
+}
+
+// The same, where there are so many; a question that asks for more is none of the stored ones.
+pub fn lent_whole(space: &mut [u8], n: usize, first: u8) -> Result<&mut [u8], Stop> {
+    if space.len() < n {
+        return Err(Stop::Broken);
+    }
+    Ok(lent(space, n, first))
 }
 
 // What stands behind the first n, or none where there are fewer.

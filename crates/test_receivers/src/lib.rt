@@ -28,7 +28,7 @@ impl Lent {
     }
 
     pub fn lend(&mut self, q: Question) -> Result<(), Stop> {
-        self.room = read::lent(&mut self.space, q.short(1), q.octet(3))?.len();
+        self.room = read::lent_whole(&mut self.space, q.short(1), q.octet(3))?.len();
         Ok(())
     }
 }

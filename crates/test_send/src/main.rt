@@ -59,7 +59,7 @@ fn express(rt: HostRuntime, q: Question) -> Result<(), Stop> {
     let mut body = [0u8; 2048];
     let mut space = [0u8; 2048];
     let body = read::octets(rt, &mut body, q.short(1))?;
-    let out = read::lent(&mut space, q.short(3), q.octet(5))?;
+    let out = read::lent_whole(&mut space, q.short(3), q.octet(5))?;
     answered(rt, b"express", single::express(body, out), out)
 }
 
@@ -73,7 +73,7 @@ fn order<F: FnOnce(&mut [u8]) -> Result<Written, Refusal>>(
     requires { F.IsAlwaysCallable call }
 {
     let mut space = [0u8; 2048];
-    let out = read::lent(&mut space, q.short(1), q.octet(3))?;
+    let out = read::lent_whole(&mut space, q.short(1), q.octet(3))?;
     let answer = call(out);
     answered(rt, name, answer, out)
 }
@@ -92,7 +92,7 @@ fn record(q: Question) -> Record {
 
 fn preemptable(rt: HostRuntime, kept: &mut Kept, q: Question) -> Result<(), Stop> {
     let mut space = [0u8; 2048];
-    let out = read::lent(&mut space, q.short(10), q.octet(12))?;
+    let out = read::lent_whole(&mut space, q.short(10), q.octet(12))?;
     let body = read::front(&kept.space, kept.given);
     let ask = (q.octet(1) != 0).then_some(q.long(2));
     let sent = send::preemptable(kept.record, body, ask, out);

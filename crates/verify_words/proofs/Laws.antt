@@ -1,4 +1,4 @@
--- The verification record and its words say the same, both ways.
+-- The verification record and its words say the same, both ways; what words that are a record's have.
 -- Assumes nothing.
 use mathlib.Core.Path.{◌≡◌, refl}
 use mathlib.Core.Bool.{true}
@@ -16,10 +16,13 @@ use Rattle.words.proofs.Laws.{flag_read, flag_written}
 use Rattle.verify_words.specs.Link.{link_words, link_fits, link_of}
 use Rattle.rules.proofs.Tests.{both}
 
--- what five words that are a record's have, as far as it is asked here
+-- what five words that are a record's have
 record Fits (w : List ℕ) : Type 0 where
   pub phase : word w 0 ≤ 3
+  pub attempt : word w 1 ≤ 255
+  pub left : word w 2 ≤ 255
   pub owed : word w 3 ≤ 1
+  pub wait : word w 4 ≤ 255
 
 fits : (w : List ℕ) → link_fits w ≡ true → Fits w
 unfolding link_fits
@@ -28,7 +31,17 @@ fits w e =
     let b = both (is_count w 1) _ a.1 in
     let c = both (is_count w 2) _ b.1 in
     let d = both (is_flag w 3) (is_count w 4) c.1 in
-    record { phase = leb-true _ _ a.0; owed = leb-true _ _ d.0 }
+    record {
+      phase = leb-true _ _ a.0;
+      attempt = leb-true _ _ b.0;
+      left = leb-true _ _ c.0;
+      owed = leb-true _ _ d.0;
+      wait = leb-true _ _ d.1;
+    }
+
+-- what `link_of` asks of them
+pub counts_known : (w : List ℕ) → link_fits w ≡ true → (word w 1 ≤ 255) × (word w 2 ≤ 255) × (word w 4 ≤ 255)
+counts_known w e = let f = fits w e in (f.attempt, f.left, f.wait)
 
 -- phases
 phase_read : (p : Phase) → phase_of (phase_number p) ≡ p

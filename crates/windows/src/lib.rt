@@ -95,19 +95,23 @@ impl<const N: usize> Window<N> {
         }
     }
 
-    // One more read behind what is left, which goes to the window's front. Behind a read that fails nothing comes.
+    // One more read behind what is left. Where that ends in the window's second half it goes to the front first, and not at each read: of input that
+    // comes in small pieces a read would copy more than it gives, and octet by octet, since the two places would overlap. Behind a read that fails
+    // nothing comes.
     pub fn read_on<R: Read>(&mut self, input: &mut R) -> io::Result<()>
         ensures { OnErr result (self.new.1 ≡ true) }
     {
-        let left = self.to - self.from;
+        if N / 2 < self.to {
+            let octets = &mut self.octets[..];
+            octets.copy_within(self.from..self.to, 0);
+            self.to -= self.from;
+            self.from = 0;
+        }
         let octets = &mut self.octets[..];
-        octets.copy_within(self.from..self.to, 0);
-        let read = input.read(&mut octets[left..]);
-        self.from = 0;
-        self.to = left;
+        let read = input.read(&mut octets[self.to..]);
         match read {
             Ok(more) => {
-                self.to = left + more;
+                self.to += more;
                 self.ended = more == 0;
                 Ok(())
             }

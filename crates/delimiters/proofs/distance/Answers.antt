@@ -21,22 +21,22 @@ at_end : (x i : ℕ) → 11 ≤ i → left x i ≡ 8
 unfolding least_of
 at_end x i h = ap (λ (ds : List ℕ). least_of (map (differing x) ds)) (drop_of_length-le eleven h)
 
-pub loop-delimiter-init : goal.loop-delimiter-init
+pub loop-i-init : goal.loop-i-init
 unfolding distance_of
-loop-delimiter-init c = record {
+loop-i-init c = record {
   few = omega arith;
   least = omega (arith, least_eight (map (differing c.args.octet) eleven));
   stop = unbeaten c.args.octet 0 c.ranges.octet.fits;
 }
 
-pub loop-delimiter-preserved : goal.loop-delimiter-preserved
-loop-delimiter-preserved c =
-    let l = c.loop-delimiter in
-    let t = turn c.args.octet l.delimiter-index (omega arith) in
-    record { few = omega arith; least = omega arith; stop = unbeaten c.args.octet (l.delimiter-index + 1) c.ranges.octet.fits }
+pub loop-i-preserved : goal.loop-i-preserved
+loop-i-preserved c =
+    let l = c.loop-i in
+    let t = turn c.args.octet l.i (omega arith) in
+    record { few = omega arith; least = omega arith; stop = unbeaten c.args.octet (l.i + 1) c.ranges.octet.fits }
 
 pub returns : goal.returns
 returns c =
-    let l = c.loop-delimiter in
-    let e = at_end c.args.octet l.delimiter-index (omega arith) in
+    let l = c.loop-i in
+    let e = at_end c.args.octet l.i (omega arith) in
     omega arith

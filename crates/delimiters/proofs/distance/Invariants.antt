@@ -11,9 +11,9 @@ use Rattle.delimiters.proofs.distance.Given as goal
 abbrev pub left : ℕ → ℕ → ℕ
 left x i = least_of (map (differing x) (drop i eleven))
 
-abbrev pub invariant-loop-delimiter : goal.invariant-loop-delimiter
-invariant-loop-delimiter l = record {
+abbrev pub invariant-loop-i : goal.invariant-loop-i
+invariant-loop-i l = record {
   few : l.best ≤ 8;
-  least : min l.best (left l.octet l.delimiter-index) ≡ distance_of l.octet;
-  stop : l.delimiter-index < 11 → differing l.octet (get_or eleven l.delimiter-index 0) ≤ 2 → differing l.octet (get_or eleven l.delimiter-index 0) ≡ distance_of l.octet;
+  least : min l.best (left l.octet l.i) ≡ distance_of l.octet;
+  stop : l.i < 11 → differing l.octet (get_or eleven l.i 0) ≤ 2 → differing l.octet (get_or eleven l.i 0) ≡ distance_of l.octet;
 }

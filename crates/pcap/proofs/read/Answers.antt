@@ -13,7 +13,7 @@ use Rattle.pcap.proofs.Lengths.{uncaptured}
 use Rattle.pcap.proofs.read.Goals as goal
 
 pub overflow_sub-octets : goal.overflow_sub-octets
-overflow_sub-octets c = open_long _ _ (sym c.open.ensures ∙ ap opening c.in-Ok.is)
+overflow_sub-octets c = omega (arith, open_long _ _ (sym c.open.ensures ∙ ap opening c.in-Ok.is))
 
 pub overflow_mul-octets : goal.overflow_mul-octets
 overflow_mul-octets c =

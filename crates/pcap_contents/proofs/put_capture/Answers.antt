@@ -1,6 +1,7 @@
 -- `pcap_contents::put_capture` meets its contract.
 use mathlib.Core.Path.{ap, ◌∙◌}
 use native.Mathlib.Omega.{arith}
+use lib.ListN.{length}
 use Rattle.octets.specs.Laid.{laid}
 use Rattle.trace_layout.specs.Layout.{read_all}
 use Rattle.pcap_headers.proofs.Laid.{records_room, header_first}
@@ -21,7 +22,7 @@ pub put_all-requires : goal.put_all-requires
 put_all-requires c =
     let a = c.args in
     let r = records_room (read_all a.trace.now).contents a.out.now c.requires in
-    captured_room writer (read_all a.trace.now).contents _ (omega (arith, r))
+    omega (arith, captured_room writer (read_all a.trace.now).contents (length c.put_file_header.new.out) (omega (arith, r)))
 
 pub returns : goal.returns
 returns c =
