@@ -95,23 +95,25 @@ impl<const N: usize> Window<N> {
         }
     }
 
-    // One more read behind what is left. Where that ends in the window's second half it goes to the front first, and not at each read: of input that
-    // comes in small pieces a read would copy more than it gives, and octet by octet, since the two places would overlap. Behind a read that fails
-    // nothing comes.
+    // One more read behind what is left, which goes to the window's front, if it isn't there. Where the two places overlap it goes by way of the
+    // window's end, since octets that are copied between such places go one by one. Behind a read that fails nothing comes.
     pub fn read_on<R: Read>(&mut self, input: &mut R) -> io::Result<()>
         ensures { OnErr result (self.new.1 ≡ true) }
     {
-        if N / 2 < self.to {
-            let octets = &mut self.octets[..];
-            octets.copy_within(self.from..self.to, 0);
-            self.to -= self.from;
-            self.from = 0;
-        }
+        let left = self.to - self.from;
         let octets = &mut self.octets[..];
-        let read = input.read(&mut octets[self.to..]);
+        if left <= self.from {
+            octets.copy_within(self.from..self.to, 0);
+        } else if 0 < self.from {
+            octets.copy_within(self.from..self.to, N - left);
+            octets.copy_within(N - left..N, 0);
+        }
+        let read = input.read(&mut octets[left..]);
+        self.from = 0;
+        self.to = left;
         match read {
             Ok(more) => {
-                self.to += more;
+                self.to = left + more;
                 self.ended = more == 0;
                 Ok(())
             }
